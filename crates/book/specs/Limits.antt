@@ -1,0 +1,56 @@
+-- The numbers that document 01 fixes, each in one place: sizes of the store, lengths of the lent buffers, limits.
+use Prim.Native.Nat.{ℕ, _*_}
+
+-- 01: 4,096 rows of 16 bytes, so a log of 65,536 bytes
+abbrev pub rowLimit : ℕ
+rowLimit = 4096
+
+abbrev pub rowLength : ℕ
+rowLength = 16
+
+abbrev pub logLength : ℕ
+logLength = 65536
+
+-- 01: 32 pages of 32 bytes with 7 cells each, so charts of 1,024 bytes; the copy in RAM is as long
+abbrev pub pageLimit : ℕ
+pageLimit = 32
+
+abbrev pub pageLength : ℕ
+pageLength = 32
+
+abbrev pub places : ℕ
+places = 7
+
+abbrev pub chartsLength : ℕ
+chartsLength = 1024
+
+-- 01: cells 0 to 223
+abbrev pub cellLimit : ℕ
+cellLimit = 224
+
+-- 01: visits 1 to 255
+abbrev pub visitLimit : ℕ
+visitLimit = 255
+
+-- 01: at most 16 active visits
+abbrev pub activeLimit : ℕ
+activeLimit = 16
+
+-- 01: a scope table of 64 entries
+abbrev pub scopeLimit : ℕ
+scopeLimit = 64
+
+-- 01: a tail of at most 64 rows
+abbrev pub tailLimit : ℕ
+tailLimit = 64
+
+-- 01: a format is within ±1,000,000, an opening takes cells within ±200,000,000
+abbrev pub formatBound : ℕ
+formatBound = 1000000
+
+abbrev pub chartBound : ℕ
+chartBound = 200000000
+
+-- 01: 4,096 rows move a cell by at most 134,217,728
+abbrev pub moveBound : ℕ
+moveBound = 134217728

@@ -1,0 +1,19 @@
+#!/usr/bin/env bash
+# All tests: the layout of the files, every proof with the must-fail edits and the programs, and the comparison with the other implementation.
+# The last line is the prover's own count; the exit status is not 0 when anything failed.
+set -uo pipefail
+cd "$(dirname "$0")" || exit 1
+failed=0
+
+rt fmt --check || failed=1
+
+count=$(mktemp)
+trap 'rm -f "$count"' EXIT
+rt ci 2>&1 | tee "$count" || failed=1
+
+if [ -f compare/Cargo.toml ]; then
+    (cd compare && cargo test --release --offline --quiet && cargo run --release --offline --quiet) || failed=1
+fi
+
+tail -n 1 "$count"
+exit "$failed"
