@@ -1,0 +1,141 @@
+-- `rows::reader::row_in` meets its contract, kind by kind. Assumes nothing.
+use mir.Syntax.{w16}
+use mir.Facts.{toZ-ofZ}
+use Rattle.rows.proofs.RowOf.{of-kind, of-rest}
+use borrow.Author.Needs.{needs}
+use Rattle.rows.proofs.reader.row_in.Statement.{statement}
+use Rattle.rows.proofs.reader.row_in.Tie as tie
+
+shared-slice-read-wide : tie.Need-shared-slice-read-wide
+shared-slice-read-wide c = search needs
+
+wide-requires : tie.Need-wide-requires
+wide-requires c κs = search needs
+
+shared-slice-read-match : tie.Need-shared-slice-read-match
+shared-slice-read-match c = search needs
+
+shared-slice-read-match-2 : tie.Need-shared-slice-read-match-2
+shared-slice-read-match-2 c = search needs
+
+shared-slice-read-word : tie.Need-shared-slice-read-word
+shared-slice-read-word c = search needs
+
+shared-slice-read-word-2 : tie.Need-shared-slice-read-word-2
+shared-slice-read-word-2 c = search needs
+
+word-requires : tie.Need-word-requires
+word-requires c κs = search needs
+
+signed-requires : tie.Need-signed-requires
+signed-requires c κs = search needs
+
+shared-slice-read-wide-2 : tie.Need-shared-slice-read-wide-2
+shared-slice-read-wide-2 c = search needs
+
+wide-requires-2 : tie.Need-wide-requires-2
+wide-requires-2 c κs = search needs
+
+shared-slice-read-word-3 : tie.Need-shared-slice-read-word-3
+shared-slice-read-word-3 c = search needs
+
+shared-slice-read-word-4 : tie.Need-shared-slice-read-word-4
+shared-slice-read-word-4 c = search needs
+
+word-requires-2 : tie.Need-word-requires-2
+word-requires-2 c κs = search needs
+
+shared-slice-read-word-5 : tie.Need-shared-slice-read-word-5
+shared-slice-read-word-5 c = search needs
+
+shared-slice-read-word-6 : tie.Need-shared-slice-read-word-6
+shared-slice-read-word-6 c = search needs
+
+word-requires-3 : tie.Need-word-requires-3
+word-requires-3 c κs = search needs
+
+signed-requires-2 : tie.Need-signed-requires-2
+signed-requires-2 c κs = search needs
+
+returns : tie.Need-returns
+returns c =
+    let s = c .before .before .before .before .before .before in
+    of-kind (s .args .b .now) 0 (c .match .keys1)
+
+returns-2 : tie.Need-returns-2
+returns-2 c =
+    let w = c .before .before .before in
+    rw (w .wide .ensures) (of-kind (w .before .before .before .args .b .now) 1 (c .match .keys2))
+
+returns-3 : tie.Need-returns-3
+returns-3 c =
+    let m = c .before .before .before .before in
+    let w = m .before .before .before in
+    rw (
+      w .wide .ensures,
+      toZ-ofZ {w = w16} {z = c .signed .result} (record { sfits = c .signed .ok }),
+      c .signed .ensures,
+      c .before .word .ensures,
+    )
+    (of-kind (w .before .before .before .args .b .now) 2 (m .match .keys3))
+
+returns-4 : tie.Need-returns-4
+returns-4 c =
+    let m = c .before .before in
+    let w = m .before .before .before in
+    rw (w .wide .ensures, c .wide2 .ensures) (of-kind (w .before .before .before .args .b .now) 3 (m .match .keys4))
+
+returns-5 : tie.Need-returns-5
+returns-5 c =
+    let u = c .before .before .before .before in
+    let m = u .before .before .before in
+    let w = m .before .before .before in
+    rw (
+      w .wide .ensures,
+      u .word2 .ensures,
+      toZ-ofZ {w = w16} {z = c .signed2 .result} (record { sfits = c .signed2 .ok }),
+      c .signed2 .ensures,
+      c .before .word3 .ensures,
+    )
+    (of-kind (w .before .before .before .args .b .now) 4 (m .match .keys5))
+
+returns-6 : tie.Need-returns-6
+returns-6 c =
+    let w = c .before .before .before in
+    rw (w .wide .ensures) (of-kind (w .before .before .before .args .b .now) 5 (c .match .keys6))
+
+returns-7 : tie.Need-returns-7
+returns-7 c =
+    let w = c .before .before .before in
+    let r = c .match .rest in
+    rw (w .wide .ensures)
+    (of-rest (w .before .before .before .args .b .now) (r .0 .0 .0 .0 .0 .1) (r .0 .0 .0 .0 .1) (r .0 .0 .0 .1) (r .0 .0 .1) (r .0 .1) (r .1))
+
+pub row-in-spec : {M : Type 1} → statement M
+row-in-spec =
+    tie.close
+    (tie.spec
+    shared-slice-read-wide
+    wide-requires
+    shared-slice-read-match
+    shared-slice-read-match-2
+    shared-slice-read-word
+    shared-slice-read-word-2
+    word-requires
+    signed-requires
+    shared-slice-read-wide-2
+    wide-requires-2
+    shared-slice-read-word-3
+    shared-slice-read-word-4
+    word-requires-2
+    shared-slice-read-word-5
+    shared-slice-read-word-6
+    word-requires-3
+    signed-requires-2
+    returns
+    returns-2
+    returns-3
+    returns-4
+    returns-5
+    returns-6
+    returns-7)
