@@ -54,7 +54,8 @@ fine-adds b Call.begin i w t e =
     let act = leb-false activeLimit (length (l .active)) (q .0) in
     let fit : isVisit (suc (l .begun)) ≡ true = and-i _ _ (le-leb 1 (suc (l .begun)) (omega arith)) (le-leb (suc (l .begun)) visitLimit (omega arith)) in
     alone l (Row.begin (suc (l .begun)))
-    (and-i _ _ (and-i _ _ fit (eq-eqb (suc (l .begun)) (suc (l .begun)) refl)) (and-i _ _ (lt-ltb (length (l .active)) activeLimit (omega arith)) (not-false _ (r .0))))
+    (and-i _ _ (and-i _ _ fit (eq-eqb (suc (l .begun)) (suc (l .begun)) refl))
+    (and-i _ _ (lt-ltb (length (l .active)) activeLimit (omega arith)) (not-false _ (r .0))))
     (λ v. other v (eqb v (suc (l .begun))) refl)
   where
     other : (v : ℕ) (t : Bool) → eqb v (suc (ledgerOf b .begun)) ≡ t → (t || isActive (ledgerOf b) v) ≡ true → bearsUndo (ledgerOf b) v ≡ false
@@ -68,7 +69,8 @@ fine-adds b (Call.change v c a) i w t e =
     let s = passes (not (room l 2)) 7 _ (r .1) in
     let act = not-false (isActive l v) (p .0) in
     let fit : fits (Row.change v c a) ≡ true = and-i _ _ (and-i _ _ (is-visit l v i act) (not-false _ (q .0))) (T-true _ t) in
-    alone l (Row.change v c a) (and-i _ _ (and-i _ _ fit (and-i _ _ act (ap not (w v act)))) (and-i (scopeFits l v c) (room l 2) (not-false _ (r .0)) (not-false _ (s .0)))) w
+    let limits = and-i (scopeFits l v c) (room l 2) (not-false _ (r .0)) (not-false _ (s .0)) in
+    alone l (Row.change v c a) (and-i _ _ (and-i _ _ fit (and-i _ _ act (ap not (w v act)))) limits) w
 fine-adds b (Call.handOver g r c) i w t e =
     let l = ledgerOf b in
     let p = passes (not (isActive l g)) 8 _ e in

@@ -57,7 +57,8 @@ grows-events cells b (e ∷ es) s t =
 -- ── A commit ──────────────────────────────────────────────────────────────────────────────────────────────────────────
 
 -- an accepted commit whose power holds stores all rows and its own
-pub commit-stored : (b : Book) (v : ℕ) → Sound b → through b (Call.commit v) .isOpen ≡ true → through b (Call.commit v) .stored ≡ rowsOf b ++ (Row.commit v ∷ [])
+pub commit-stored : (b : Book) (v : ℕ) → Sound b → through b (Call.commit v) .isOpen ≡ true
+    → through b (Call.commit v) .stored ≡ rowsOf b ++ (Row.commit v ∷ [])
 unfolding through adds
 commit-stored b v s o =
     sym (append-nil _) ∙ sym (ap (λ (l : List Row). through b (Call.commit v) .stored ++ l) (force-empties (addAll b (Row.commit v ∷ [])))) ∙
@@ -77,7 +78,9 @@ commit-done cells b lengths v s d = go (decided cells b lengths (Call.commit v))
     go (accepts l o r e) =
         let opened = ended-open (value cells b (Call.commit v)) (through b (Call.commit v)) (ap (λ (x : Outcome). x .answer .number) (sym e) ∙ d) in
         record {
-          stored = ap (λ (x : Outcome). x .book .stored) e ∙ ap (λ (x : Book). x .stored) (ended-book _ (through b (Call.commit v))) ∙ commit-stored b v s opened;
+          stored =
+              ap (λ (x : Outcome). x .book .stored) e ∙ ap (λ (x : Book). x .stored) (ended-book _ (through b (Call.commit v))) ∙
+              commit-stored b v s opened;
           value = ap (λ (x : Outcome). x .answer .value) e ∙ ap (λ (a : Answer). a .value) (ended-done _ (through b (Call.commit v)) opened) ∙ number;
         }
       where
@@ -90,11 +93,13 @@ pub record CommitLasts (b : Book) (v : ℕ) (later : List Row) : Type 0 where
   pub row : rowAt later (suc (length (rowsOf b))) ≡ Row.commit v
   pub sum : (x : Change) → Logged (rowsOf b) x → x .holder ≡ v → InSum later x
 
-commit-kept : (l : Ledger) (v : ℕ) (x : Change) → In x (l .changes) → x .holder ≡ v → In x (after l (Row.commit v) .changes) × (isKept (after l (Row.commit v)) x ≡ true)
+commit-kept : (l : Ledger) (v : ℕ) (x : Change) → In x (l .changes) → x .holder ≡ v
+    → In x (after l (Row.commit v) .changes) × (isKept (after l (Row.commit v)) x ≡ true)
 unfolding after
 commit-kept l v x m e = (m, or-l (eqb (x .holder) v) _ (eq-eqb (x .holder) v e))
 
-pub commit-lasts : (b : Book) (v : ℕ) (later : List Row) → StartsWith (rowsOf b ++ (Row.commit v ∷ [])) later → allowedLog later ≡ true → CommitLasts b v later
+pub commit-lasts : (b : Book) (v : ℕ) (later : List Row) → StartsWith (rowsOf b ++ (Row.commit v ∷ [])) later → allowedLog later ≡ true
+    → CommitLasts b v later
 commit-lasts b v later p al = record { long = long; row = row; sum = sum }
   where
     is : later ≡ rowsOf b ++ (Row.commit v ∷ p .0)

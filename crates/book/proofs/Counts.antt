@@ -34,7 +34,8 @@ module _ {A : Type 0} where
   sum-zero (x ∷ xs) = let k = sum-zero xs in omega arith
 
   -- one element more on the other side
-  sum-more : (q : A → A → Bool) (y : A) (ys xs : List A) → sumOf (λ x. length (keep (q x) (y ∷ ys))) xs ≡ length (keep (λ x. q x y) xs) + sumOf (λ x. length (keep (q x) ys)) xs
+  sum-more : (q : A → A → Bool) (y : A) (ys xs : List A)
+      → sumOf (λ x. length (keep (q x) (y ∷ ys))) xs ≡ length (keep (λ x. q x y) xs) + sumOf (λ x. length (keep (q x) ys)) xs
   sum-more q y ys [] = refl
   sum-more q y ys (x ∷ xs) = go (q x y) (sum-more q y ys xs)
     where
@@ -64,7 +65,8 @@ module _ {A : Type 0} where
 row-once : (xs : List Change) (s : Change) → Falling xs → In s xs → length (keep (λ x. eqb (s .row) (x .row)) xs) ≡ 1
 row-once (z ∷ xs) s f (List·Memᴰ·head e) =
     rw (eq-eqb (s .row) (z .row) (ap (λ (x : Change). x .row) e))
-    (ap (λ ys. suc (length ys)) (keep-none _ xs (λ y m. let k = f .0 y m in let r = ap (λ (x : Change). x .row) e in ne-eqb (s .row) (y .row) (λ q. omega arith))))
+    (ap (λ ys. suc (length ys)) (keep-none _ xs (λ y m.
+    let k = f .0 y m in let r = ap (λ (x : Change). x .row) e in ne-eqb (s .row) (y .row) (λ q. omega arith))))
 row-once (z ∷ xs) s f (List·Memᴰ·tail m) = let k = f .0 s m in rw (ne-eqb (s .row) (z .row) (λ q. omega arith)) (row-once xs s (f .1) m)
 
 module _ (l : Ledger) (i : Inv l) (S : Scoped (l .changes)) where
@@ -72,7 +74,8 @@ module _ (l : Ledger) (i : Inv l) (S : Scoped (l .changes)) where
   abbrev starters : List Change
   starters = keep (startsInUse l) (l .changes)
 
-  in-one : (y : Change) → In y (l .changes) → length (keep (λ x. eqb (y .scope) (x .row) && not (isUndone l y)) starters) ≡ cond (isOpenChange l y) 1 0
+  in-one : (y : Change) → In y (l .changes)
+      → length (keep (λ x. eqb (y .scope) (x .row) && not (isUndone l y)) starters) ≡ cond (isOpenChange l y) 1 0
   in-one y m = go (isUndone l y) (isActive l (y .holder)) refl
     where
       d : Started (l .changes) y
@@ -91,7 +94,8 @@ module _ (l : Ledger) (i : Inv l) (S : Scoped (l .changes)) where
           none x n e =
               let k = in-keep (startsInUse l) (l .changes) x n in
               let is = same-row (l .changes) (d .s) x (i .falling) (d .mem) (k .0) (d .row ∙ eqb-true (y .scope) (x .row) e) in
-              clash (isActive l (y .holder)) (ap (isActive l) (sym (d .holder) ∙ ap (λ (z : Change). z .holder) is) ∙ and-r (eqb (x .scope) (x .row)) _ (k .1)) q
+              let holder : y .holder ≡ x .holder = sym (d .holder) ∙ ap (λ (z : Change). z .holder) is in
+              clash (isActive l (y .holder)) (ap (isActive l) holder ∙ and-r (eqb (x .scope) (x .row)) _ (k .1)) q
 
   pub counts-open : sumOf (λ (s : Scope). s .count) (scopesOf l) ≡ length (openChanges l)
   unfolding scopesOf

@@ -66,13 +66,15 @@ keeps-holder l (commit v) x e m o = m
 keeps-holder l (abort v) x e m o = m
 
 -- and so does every list of rows
-ended-all : (l : Ledger) (rs : List Row) (x : Change) → allAllowed l rs ≡ true → In x (l .changes) → Over l (x .holder) → In x (foldl after l rs .changes)
+ended-all : (l : Ledger) (rs : List Row) (x : Change) → allAllowed l rs ≡ true → In x (l .changes) → Over l (x .holder)
+    → In x (foldl after l rs .changes)
 ended-all l [] x e m o = m
 ended-all l (r ∷ rs) x e m o =
     let a = and-l (allowed l r) _ e in ended-all (after l r) rs x (and-r (allowed l r) _ e) (keeps-holder l r x a m o) (over-after l r (x .holder) a o)
 
 -- A change whose holder has ended, by a commit or by an abort, keeps its holder: it stands as it is in every later log.
-pub ended-keeps-holder : (rs later : List Row) (x : Change) → StartsWith rs later → allowedLog later ≡ true → Logged rs x → isActive (ledger rs) (x .holder) ≡ false
+pub ended-keeps-holder : (rs later : List Row) (x : Change) → StartsWith rs later → allowedLog later ≡ true → Logged rs x
+    → isActive (ledger rs) (x .holder) ≡ false
     → Logged later x
 ended-keeps-holder rs later x p e m a =
     let i = inv-log rs (allowed-start rs later p e) in
@@ -144,7 +146,8 @@ pub undoes-is : (rs : List Row) (n : ℕ) → 1 ≤ n → member n (ledger rs .u
 undoes-is rs n h = undoes-all empty rs n h ∙ or-false (any (undoes n) rs)
 
 -- With no visit active a change has an undo row exactly when its last holder has no commit row.
-pub undone-exactly : (rs : List Row) (x : Change) → allowedLog rs ≡ true → ledger rs .active ≡ [] → Logged rs x → any (undoes (x .row)) rs ≡ not (isKept (ledger rs) x)
+pub undone-exactly : (rs : List Row) (x : Change) → allowedLog rs ≡ true → ledger rs .active ≡ [] → Logged rs x
+    → any (undoes (x .row)) rs ≡ not (isKept (ledger rs) x)
 undone-exactly rs x al e m = let i = inv-log rs al in sym (undoes-is rs (x .row) (i .good x m .low)) ∙ fate-ended (ledger rs) x i m (rw e)
 
 -- ── Once ──────────────────────────────────────────────────────────────────────────────────────────────────────────────
@@ -154,7 +157,8 @@ record AtMostOne (before : Type 0) (k : ℕ) : Type 0 where
   none : before → k ≡ 0
   one : k ≤ 1
 
-undo-once : (l : Ledger) (rs : List Row) (n : ℕ) → 1 ≤ n → allAllowed l rs ≡ true → AtMostOne (member n (l .undone) ≡ true) (length (keep (undoes n) rs))
+undo-once : (l : Ledger) (rs : List Row) (n : ℕ) → 1 ≤ n → allAllowed l rs ≡ true
+    → AtMostOne (member n (l .undone) ≡ true) (length (keep (undoes n) rs))
 unfolding after
 undo-once l [] n z e = record { none = λ h. refl; one = omega arith }
 undo-once l (r ∷ rs) n z e = go r (and-l (allowed l r) _ e) (undo-once (after l r) rs n z (and-r (allowed l r) _ e))
@@ -184,7 +188,8 @@ abort-once l (r ∷ rs) v z e i =
     step : (r : Row) (k : ℕ) → allowed l r ≡ true → AtMostOne (Over (after l r) v) k → AtMostOne (Over l v) k
     step r k al a = record { none = λ o. a .none (over-after l r v al o); one = a .one }
 
-    go : (r : Row) → allowed l r ≡ true → AtMostOne (Over (after l r) v) (length (keep (aborts v) rs)) → AtMostOne (Over l v) (length (keep (aborts v) (r ∷ rs)))
+    go : (r : Row) → allowed l r ≡ true → AtMostOne (Over (after l r) v) (length (keep (aborts v) rs))
+        → AtMostOne (Over l v) (length (keep (aborts v) (r ∷ rs)))
     go (begin u) al ih = rw (not-zero v z) (step (begin u) _ al ih)
     go (change u c a) al ih = rw (not-zero v z) (step (change u c a) _ al ih)
     go (handOver g u c) al ih = rw (not-zero v z) (step (handOver g u c) _ al ih)

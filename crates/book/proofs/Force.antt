@@ -39,7 +39,8 @@ abbrev pub lessBy : ℕ → Fuse → Fuse
 lessBy n none = none
 lessBy n (left m) = left (m - n)
 
-lands : (w s : List Row) (f : Fuse) → PowerHolds f (length w) → times (length w) storeRow (bookOf s w f true) ≡ bookOf (s ++ w) [] (lessBy (length w) f) true
+lands : (w s : List Row) (f : Fuse) → PowerHolds f (length w)
+    → times (length w) storeRow (bookOf s w f true) ≡ bookOf (s ++ w) [] (lessBy (length w) f) true
 lands [] s none h = ap (λ (l : List Row). bookOf l [] none true) (sym (append-nil s))
 lands [] s (left m) h = ap₂ (λ (l : List Row) (n : ℕ). bookOf l [] (left n) true) (sym (append-nil s)) (omega arith)
 lands (r ∷ w) s none h = lands w (s ++ (r ∷ [])) none tt ∙ ap (λ (l : List Row). bookOf l [] none true) (append-assoc s (r ∷ []) w)
@@ -69,7 +70,8 @@ force-cut s w m h = cut w s m h
 abbrev forceOn : Book → List Row → Book
 forceOn b u = cond (b .isOpen) (force (bookOf (b .stored) u (b .fuse) true)) b
 
-split : (w u s : List Row) (f : Fuse) → times (length (w ++ u)) storeRow (bookOf s (w ++ u) f true) ≡ forceOn (times (length w) storeRow (bookOf s w f true)) u
+split : (w u s : List Row) (f : Fuse)
+    → times (length (w ++ u)) storeRow (bookOf s (w ++ u) f true) ≡ forceOn (times (length w) storeRow (bookOf s w f true)) u
 unfolding force
 split [] u s f = refl
 split (r ∷ w) u s none = split w u (s ++ (r ∷ [])) none
@@ -83,7 +85,8 @@ add-then-force [] w s f = ap (λ (l : List Row). force (bookOf s l f true)) (sym
 add-then-force (c ∷ cs) w s f = go (leb tailLimit (length w)) (add-then-force cs)
   where
     -- where the tail is full, after the force that comes first
-    full : ((w s : List Row) (f : Fuse) → force (addAll (bookOf s w f true) cs) ≡ force (bookOf s (w ++ cs) f true)) → (b : Book) → b .waiting ≡ [] → Shut b
+    full : ((w s : List Row) (f : Fuse) → force (addAll (bookOf s w f true) cs) ≡ force (bookOf s (w ++ cs) f true)) → (b : Book) → b .waiting ≡ []
+        → Shut b
         → force (addAll (append b c) cs) ≡ forceOn b (c ∷ cs)
     full ih b e h = its (b .isOpen) refl
       where

@@ -119,7 +119,8 @@ pub record Named (l : Ledger) (h c n : ℕ) (a : ℤ) : Type 0 where
   pub amount : eqZ (x .amount) a ≡ true
   pub opened : isOpenChange l x ≡ true
 
-first-is : (xs : List Change) (n c : ℕ) (a : ℤ) → isFirst xs n c a ≡ true → (x : Change) × In x xs × (x .row ≡ n) × (x .cell ≡ c) × (eqZ (x .amount) a ≡ true)
+first-is : (xs : List Change) (n c : ℕ) (a : ℤ) → isFirst xs n c a ≡ true
+    → (x : Change) × In x xs × (x .row ≡ n) × (x .cell ≡ c) × (eqZ (x .amount) a ≡ true)
 first-is [] n c a e = clash false e refl
 first-is (x ∷ xs) n c a e =
     let r : eqb (x .row) n ≡ true = search (and-l, and-r) in

@@ -30,7 +30,8 @@ inv-begin l v e i =
     let rm : room l 2 ≡ true = search (and-l, and-r) in
     let le = leb-true (reserve l + 2) (free l) rm in
     let other : (u : ℕ) → u ≤ l .begun → eqb u v ≡ false = λ u h. ne-eqb u v (λ q. omega arith) in
-    let same : keep (isOpenChange (after l (begin v))) (l .changes) ≡ openChanges l = keep-same _ _ (l .changes) (λ x m. rw (other (x .holder) (i .good x m .held))) in
+    let same : keep (isOpenChange (after l (begin v))) (l .changes) ≡ openChanges l =
+    keep-same _ _ (l .changes) (λ x m. rw (other (x .holder) (i .good x m .held))) in
     record {
       old = λ u. old′ u new (eqb u v) refl;
       first = λ u. first′ u new (eqb u v) refl;
@@ -124,7 +125,8 @@ inv-handOver l g r c e i =
     let same : length (keep (isOpenChange l) (map (pass g r (only c)) (l .changes))) ≡ length (openChanges l) =
     ap length (keep-map (isOpenChange l) (pass g r (only c)) (l .changes)) ∙
     length-map (keep (λ x. isOpenChange l (pass g r (only c) x)) (l .changes)) (pass g r (only c)) ∙
-    ap length (keep-same _ _ (l .changes) (λ x m. pass-cases (λ (z : Change). isOpenChange l z ≡ isOpenChange l x) g r (only c) x (λ q. rw (q, actg, actr)) refl)) in
+    ap length (keep-same _ _ (l .changes) (λ x m.
+    pass-cases (λ (z : Change). isOpenChange l z ≡ isOpenChange l x) g r (only c) x (λ q. rw (q, actg, actr)) refl)) in
     record {
       old = i .old;
       first = i .first;
@@ -142,7 +144,8 @@ inv-handOver l g r c e i =
 -- ── Commit and abort ──────────────────────────────────────────────────────────────────────────────────────────────────
 
 -- the open changes of a visit that ends fall away
-ends-less : (l : Ledger) (v : ℕ) → length (keep (λ x. member (x .holder) (without v (l .active)) && not (isUndone l x)) (l .changes)) ≤ length (openChanges l)
+ends-less : (l : Ledger) (v : ℕ)
+    → length (keep (λ x. member (x .holder) (without v (l .active)) && not (isUndone l x)) (l .changes)) ≤ length (openChanges l)
 ends-less l v = length-keep _ _ (l .changes) (λ x m h.
     let act = and-l (member (x .holder) (without v (l .active))) (not (isUndone l x)) h in
     and-i _ _ (stays (x .holder) v (l .active) act .1) (and-r (member (x .holder) (without v (l .active))) (not (isUndone l x)) h))
@@ -176,7 +179,8 @@ inv-commit l v e i =
       space = let sp = i .space in omega arith;
     }
   where
-    ended′ : (u : ℕ) → isActive l v ≡ true → bearsUndo l v ≡ false → (t : Bool) → eqb u v ≡ t → (t || member u (l .committed)) ≡ true → Ended (after l (commit v)) u
+    ended′ : (u : ℕ) → isActive l v ≡ true → bearsUndo l v ≡ false → (t : Bool) → eqb u v ≡ t → (t || member u (l .committed)) ≡ true
+        → Ended (after l (commit v)) u
     ended′ u act clean true q h = let is = eqb-true u v q in record { old = rw is (i .old v act); over = rw is (goes v (l .active)); clean = rw is clean }
     ended′ u act clean false q h = let d = i .ended u h in record { old = d .old; over = stays-out u v (l .active) (d .over); clean = d .clean }
 

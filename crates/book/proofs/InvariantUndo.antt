@@ -19,7 +19,10 @@ unfolding after reserve
 inv-undo l h c n a e i =
     let k = names l h c n a e in
     let act : isActive l h ≡ true = rw (← k .holder) (and-l _ (not (isUndone l (k .x))) (k .opened)) in
-    let less = length-keep-less (isOpenChange (after l (undo h c n a))) (isOpenChange l) (l .changes) (k .x) (λ x m q. still x q) (k .mem) (falls (k .x) (k .row)) (k .opened) in
+    let less = length-keep-less (isOpenChange (after l (undo h c n a))) (isOpenChange l) (l .changes) (k .x)
+    (λ x m q. still x q) (k .mem) (falls (k .x) (k .row)) (k .opened) in
+    let held : (y : Change) → In y (l .changes) → y .row ≡ n → y .holder ≡ h =
+    λ y m r. ap (λ (x : Change). x .holder) (same-row (l .changes) y (k .x) (i .falling) m (k .mem) (r ∙ sym (k .row))) ∙ k .holder in
     record {
       old = i .old;
       first = i .first;
@@ -35,7 +38,7 @@ inv-undo l h c n a e i =
         held = d .held;
         first = d .first;
         fit = d .fit;
-        bears = bears′ y (λ r. ap (λ (x : Change). x .holder) (same-row (l .changes) y (k .x) (i .falling) m (k .mem) (r ∙ sym (k .row))) ∙ k .holder) (d .bears) (eqb (y .row) n) refl;
+        bears = bears′ y (held y m) (d .bears) (eqb (y .row) n) refl;
         fate = fate′ y (d .fate) (eqb (y .row) n);
       };
       falling = i .falling;

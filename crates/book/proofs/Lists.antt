@@ -54,6 +54,13 @@ pub not-or-r : (a b : Bool) → not (a || b) ≡ true → not b ≡ true
 not-or-r true b e = clash false e refl
 not-or-r false b e = e
 
+pub and-not-or : (p q r : Bool) → (p && not (q || r)) ≡ (p && not r && not q)
+and-not-or true true true = refl
+and-not-or true true false = refl
+and-not-or true false true = refl
+and-not-or true false false = refl
+and-not-or false q r = refl
+
 pub eqb-sym : (a b : ℕ) → eqb a b ≡ eqb b a
 eqb-sym a b = go (eqb a b) refl
   where
@@ -108,7 +115,8 @@ module _ {A : Type 0} where
   in-keep p [] y m = absurd (List·Memᴰ·not-nil m)
   in-keep p (x ∷ xs) y m = go (p x) refl m (in-keep p xs y)
     where
-      go : (t : Bool) → p x ≡ t → In y (cond t (x ∷ keep p xs) (keep p xs)) → (In y (keep p xs) → In y xs × (p y ≡ true)) → In y (x ∷ xs) × (p y ≡ true)
+      go : (t : Bool) → p x ≡ t → In y (cond t (x ∷ keep p xs) (keep p xs)) → (In y (keep p xs) → In y xs × (p y ≡ true))
+          → In y (x ∷ xs) × (p y ≡ true)
       go true e k ih = in-cons
           {P = λ (z : A). (In z (keep p xs) → In z xs × (p z ≡ true)) → In z (x ∷ xs) × (p z ≡ true)}
           (λ h. (here, e))
@@ -164,7 +172,8 @@ module _ {A : Type 0} where
   any-false p [] e = λ x m. absurd (List·Memᴰ·not-nil m)
   any-false p (y ∷ xs) e = go (p y) refl e (any-false p xs)
     where
-      go : (t : Bool) → p y ≡ t → (t || any p xs) ≡ false → (any p xs ≡ false → (x : A) → In x xs → p x ≡ false) → (x : A) → In x (y ∷ xs) → p x ≡ false
+      go : (t : Bool) → p y ≡ t → (t || any p xs) ≡ false → (any p xs ≡ false → (x : A) → In x xs → p x ≡ false) → (x : A) → In x (y ∷ xs)
+          → p x ≡ false
       go true q k ih = clash true refl k
       go false q k ih = in-cons q (ih k)
 
@@ -265,7 +274,8 @@ pub length-without : (v : ℕ) (xs : List ℕ) → member v xs ≡ true → leng
 length-without v [] h = clash false h refl
 length-without v (x ∷ xs) h = go (eqb v x) refl h (length-without v xs) (length-without-le v xs)
   where
-    go : (t : Bool) → eqb v x ≡ t → (t || member v xs) ≡ true → (member v xs ≡ true → length (without v xs) < length xs) → length (without v xs) ≤ length xs
+    go : (t : Bool) → eqb v x ≡ t → (t || member v xs) ≡ true → (member v xs ≡ true → length (without v xs) < length xs)
+        → length (without v xs) ≤ length xs
         → length (cond (not t) (x ∷ without v xs) (without v xs)) < length (x ∷ xs)
     go true e k ih le = omega arith
     go false e k ih le = let a = ih k in omega arith

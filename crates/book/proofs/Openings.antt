@@ -89,7 +89,8 @@ pub record Ready (b : Book) (value : ℤ) (stored : List Row) : Type 0 where
   -- 00: each cell is its formatted value and the changes whose last holder has a commit row
   pub sums : (cells : ℕ → ℤ) (c : ℕ) → applied cells stored c ≡ keptSum cells stored c
 
-pub ready : (b : Book) (f : Fuse) → Sound b → opening b true f .answer .number ≡ 0 → Ready b (opening b true f .answer .value) (opening b true f .book .stored)
+pub ready : (b : Book) (f : Fuse) → Sound b → opening b true f .answer .number ≡ 0
+    → Ready b (opening b true f .answer .value) (opening b true f .book .stored)
 unfolding opening reopen
 ready b f s e =
     let rs = b .stored in

@@ -21,7 +21,8 @@ pub last-dropped : (p : ℕ) (rs : List Row) → lastOn p (drop (lastOn p rs) rs
 last-dropped p [] = refl
 last-dropped p (r ∷ rs) = go (leb 1 (lastOn p rs) || onPage p r) refl (last-dropped p rs)
   where
-    go : (t : Bool) → (leb 1 (lastOn p rs) || onPage p r) ≡ t → lastOn p (drop (lastOn p rs) rs) ≡ 0 → lastOn p (drop (cond t (suc (lastOn p rs)) 0) (r ∷ rs)) ≡ 0
+    go : (t : Bool) → (leb 1 (lastOn p rs) || onPage p r) ≡ t → lastOn p (drop (lastOn p rs) rs) ≡ 0
+        → lastOn p (drop (cond t (suc (lastOn p rs)) 0) (r ∷ rs)) ≡ 0
     go true e ih = ih
     go false e ih = rw e
 
@@ -35,7 +36,8 @@ last-within p (r ∷ rs) = go (leb 1 (lastOn p rs) || onPage p r) (last-within p
     go false h = omega arith
 
 -- n rows of the tail stored one by one leave the rest waiting, where the book is open after them
-waits-after : (n : ℕ) (w s : List Row) (f : Fuse) → times n storeRow (bookOf s w f true) .isOpen ≡ true → times n storeRow (bookOf s w f true) .waiting ≡ drop n w
+waits-after : (n : ℕ) (w s : List Row) (f : Fuse) → times n storeRow (bookOf s w f true) .isOpen ≡ true
+    → times n storeRow (bookOf s w f true) .waiting ≡ drop n w
 waits-after zero w s f o = refl
 waits-after (suc n) [] s f o = waits-after n [] s f o ∙ drop-of-length-le [] {i = n} (omega arith)
 waits-after (suc n) (r ∷ w) s none o = waits-after n w (s ++ (r ∷ [])) none o
@@ -56,7 +58,8 @@ page-waits b = go (b .stored) (b .waiting) (b .fuse) (b .isOpen)
 pub flush-stores : (b : Book) (p : ℕ) → b .isOpen ≡ true → finish (flushes p) b .isOpen ≡ true → lastOn p (finish (flushes p) b .waiting) ≡ 0
 flush-stores b p o = go (b .stored) (b .waiting) (b .fuse) (b .isOpen) o
   where
-    go : (s w : List Row) (f : Fuse) (t : Bool) → t ≡ true → finish (flushes p) (bookOf s w f t) .isOpen ≡ true → lastOn p (finish (flushes p) (bookOf s w f t) .waiting) ≡ 0
+    go : (s w : List Row) (f : Fuse) (t : Bool) → t ≡ true → finish (flushes p) (bookOf s w f t) .isOpen ≡ true
+        → lastOn p (finish (flushes p) (bookOf s w f t) .waiting) ≡ 0
     go s w f true e q =
         let k = page-waits (times (lastOn p w) storeRow (bookOf s w f true)) q in
         ap (lastOn p) (k .1 ∙ waits-after (lastOn p w) w s f (k .0)) ∙ last-dropped p w

@@ -66,7 +66,16 @@ module _ (l : Ledger) (v c : ℕ) (a : ℤ) (S : Scoped (l .changes)) where
   newest = newChange l v c a
 
   started-there : (x : Change) → Started (l .changes) x → Started (newest ∷ l .changes) x
-  started-there x d = record { s = d .s; mem = there (d .mem); start = d .start; row = d .row; maker = d .maker; cell = d .cell; holder = d .holder; handed = d .handed }
+  started-there x d = record {
+    s = d .s;
+    mem = there (d .mem);
+    start = d .start;
+    row = d .row;
+    maker = d .maker;
+    cell = d .cell;
+    holder = d .holder;
+    handed = d .handed;
+  }
 
   new-started : Started (newest ∷ l .changes) newest
   new-started = go (new-scope l v c)
@@ -97,7 +106,8 @@ module _ (l : Ledger) (v c : ℕ) (a : ℤ) (S : Scoped (l .changes)) where
   new-and-old u k x y e n p q =
       let f = continued u k newest (rw e at p) in ap (λ (z : Change). z .scope) e ∙ new-single y n (rw (f .0, f .1) q)
 
-  both : (u k : ℕ) (x y : Change) → (x ≡ newest) ⊎ In x (l .changes) → (y ≡ newest) ⊎ In y (l .changes) → continues u k x ≡ true → continues u k y ≡ true → x .scope ≡ y .scope
+  both : (u k : ℕ) (x y : Change) → (x ≡ newest) ⊎ In x (l .changes) → (y ≡ newest) ⊎ In y (l .changes) → continues u k x ≡ true
+      → continues u k y ≡ true → x .scope ≡ y .scope
   both u k x y (inl e) (inl f) p q = ap (λ (z : Change). z .scope) (e ∙ sym f)
   both u k x y (inl e) (inr n) p q = new-and-old u k x y e n p q
   both u k x y (inr m) (inl f) p q = sym (new-and-old u k y x f m q p)

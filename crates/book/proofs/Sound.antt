@@ -38,7 +38,8 @@ pub stored-allowed : (b : Book) → Sound b → allowedLog (b .stored) ≡ true
 stored-allowed b s = allowed-start (b .stored) (rowsOf b) (b .waiting, refl) (s .allowed)
 
 -- what the steps leave is sound again, if the rows that they add are fine and the tail is not too long
-sound-extends : (b b′ : Book) (rs : List Row) → allowedLog (rowsOf b) ≡ true → Extends b rs b′ → Fine (ledgerOf b) rs → length (b′ .waiting) ≤ tailLimit → Sound b′
+sound-extends : (b b′ : Book) (rs : List Row) → allowedLog (rowsOf b) ≡ true → Extends b rs b′ → Fine (ledgerOf b) rs
+    → length (b′ .waiting) ≤ tailLimit → Sound b′
 sound-extends b b′ rs s p f tail = record {
   allowed = al (b′ .isOpen) refl;
   tail = tail;
@@ -146,7 +147,10 @@ sound-call cells b lengths k s t = go (decided cells b lengths k)
 pub sound-reopened : (f : Fuse) (rs : List Row) → allowedLog rs ≡ true → Sound (reopened f rs)
 sound-reopened f rs al =
     let i = inv-log rs al in
-    let fine : Fine (ledger rs) (closing (ledger rs)) = record { good = take-back _ (ledger rs) i .good; whole = λ v h. clash false (rw (closing-closes (ledger rs) i) at h) refl } in
+    let fine : Fine (ledger rs) (closing (ledger rs)) = record {
+      good = take-back _ (ledger rs) i .good;
+      whole = λ v h. clash false (rw (closing-closes (ledger rs) i) at h) refl;
+    } in
     sound-extends (starting f rs) (reopened f rs) (closing (ledger rs)) (rw (append-nil rs) al) (extends-open f rs) (rw (append-nil rs) fine)
     (rw (reopened-empty f rs) (omega arith))
 

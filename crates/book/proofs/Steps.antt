@@ -82,8 +82,17 @@ extends-land s st wa w f e p = go f
     part : StartsWith st (s ++ w ++ [])
     part = (wa ++ [], ap (λ (l : List Row). l ++ []) (sym e) ∙ append-assoc st wa [])
 
+    landed : (f f′ : Fuse) → Extends (bookOf s w f true) [] (bookOf st wa f′ true)
+    landed f f′ = record {
+      rows = λ o. e ∙ sym (append-nil (s ++ w));
+      starts = p;
+      part = part;
+      shut = λ o. clash true refl o;
+      stuck = λ o. clash true refl o;
+    }
+
     go : (f : Fuse) → Extends (bookOf s w f true) [] (land f s st wa)
-    go none = record { rows = λ o. e ∙ sym (append-nil (s ++ w)); starts = p; part = part; shut = λ o. clash true refl o; stuck = λ o. clash true refl o }
+    go none = landed none none
     go (left zero) = record {
       rows = λ o. clash true refl (sym o);
       starts = starts-refl s;
@@ -91,7 +100,7 @@ extends-land s st wa w f e p = go f
       shut = λ o. (refl, refl);
       stuck = λ o. clash true refl o;
     }
-    go (left (suc n)) = record { rows = λ o. e ∙ sym (append-nil (s ++ w)); starts = p; part = part; shut = λ o. clash true refl o; stuck = λ o. clash true refl o }
+    go (left (suc n)) = landed (left (suc n)) (left n)
 
 extends-store : (b : Book) → Shut b → Extends b [] (storeRow b)
 extends-store b = go (b .stored) (b .waiting) (b .fuse) (b .isOpen)
@@ -167,7 +176,9 @@ then-ends b c d rs p q = subst (λ (l : List Row). Extends b l d) (append-nil rs
 -- an accepted call
 pub extends-through : (b : Book) (k : Call) → Shut b → Extends b (adds b k) (through b k)
 unfolding through
-extends-through b k h = let p = extends-all b (adds b k) h in then-ends b (addAll b (adds b k)) (through b k) (adds b k) p (extends-finish (ending k) _ (p .shut))
+extends-through b k h =
+    let p = extends-all b (adds b k) h in
+    then-ends b (addAll b (adds b k)) (through b k) (adds b k) p (extends-finish (ending k) _ (p .shut))
 
 -- an opening
 pub extends-open : (f : Fuse) (rs : List Row) → Extends (starting f rs) (closing (ledger rs)) (reopened f rs)

@@ -12,7 +12,7 @@ use Rattle.book.specs.Rows.{Row, begin, change, handOver, undo, commit, 
 use Rattle.book.specs.Ledger.{Change, Ledger, empty, newChange, given, pass, only, after, ledger}
 use Rattle.book.specs.Rules.{isActive, isUndone, allowed, allAllowed, allowedLog}
 use Rattle.book.specs.Cells.{movedBy, applied, isKept, keptSum}
-use Rattle.book.proofs.Lists.{and-l, and-r, eqZ-true, keep-same}
+use Rattle.book.proofs.Lists.{and-l, and-r, and-not-or, eqZ-true, keep-same}
 use Rattle.book.proofs.Invariant.{Inv, Falling, Named, names, same-row, fresh, pass-cases}
 use Rattle.book.proofs.InvariantKept.{inv-after, inv-empty, inv-log}
 use Rattle.book.proofs.Fate.{fate-ended}
@@ -30,7 +30,8 @@ abbrev pub standingSum : ℕ → Ledger → ℤ
 standingSum c l = amounts (keep (standsIn c l) (l .changes))
 
 -- a hand-over alters no cell, row or amount
-amounts-pass : (p : Change → Bool) (g r : ℕ) (cs : ℕ → Bool) (xs : List Change) → ((x : Change) → p (given r x) ≡ p x) → amounts (keep p (map (pass g r cs) xs)) ≡ amounts (keep p xs)
+amounts-pass : (p : Change → Bool) (g r : ℕ) (cs : ℕ → Bool) (xs : List Change) → ((x : Change) → p (given r x) ≡ p x)
+    → amounts (keep p (map (pass g r cs) xs)) ≡ amounts (keep p xs)
 amounts-pass p g r cs [] h = refl
 amounts-pass p g r cs (x ∷ xs) h = rw (pass-cases (λ (y : Change). p y ≡ p x) g r cs x (λ q. h x) refl) (go (p x) (amounts-pass p g r cs xs h))
   where
@@ -44,7 +45,8 @@ amounts-less : (p : Change → Bool) (xs : List Change) (x : Change) → Falling
     → amounts (keep (λ y. p y && not (eqb (y .row) (x .row))) xs) +ℤ x .amount ≡ amounts (keep p xs)
 amounts-less p (z ∷ xs) x f (List·Memᴰ·head e) t =
     rw (e, rw e at t, eq-eqb (z .row) (z .row) refl)
-    (rw (keep-same (λ y. p y && not (eqb (y .row) (z .row))) p xs (λ y m. let k = f .0 y m in rw (ne-eqb (y .row) (z .row) (λ q. omega arith)) (and-true (p y))))
+    (rw (keep-same (λ y. p y && not (eqb (y .row) (z .row))) p xs
+    (λ y m. let k = f .0 y m in rw (ne-eqb (y .row) (z .row) (λ q. omega arith)) (and-true (p y))))
     (+ℤ-comm (amounts (keep p xs)) (z .amount)))
 amounts-less p (z ∷ xs) x f (List·Memᴰ·tail m) t =
     let k = f .0 x m in
@@ -62,7 +64,8 @@ sum-change : (c : ℕ) (l : Ledger) (v k : ℕ) (a : ℤ) → Inv l → standing
 unfolding after
 sum-change c l v k a i = rw (fresh l i, and-true (eqb k c)) (go (eqb k c))
   where
-    go : (t : Bool) → amounts (cond t (newChange l v k a ∷ keep (standsIn c l) (l .changes)) (keep (standsIn c l) (l .changes))) ≡ standingSum c l +ℤ cond t a (pos 0)
+    go : (t : Bool)
+        → amounts (cond t (newChange l v k a ∷ keep (standsIn c l) (l .changes)) (keep (standsIn c l) (l .changes))) ≡ standingSum c l +ℤ cond t a (pos 0)
     go true = +ℤ-comm a (standingSum c l)
     go false = sym (+ℤ-idr (standingSum c l))
 
@@ -73,13 +76,6 @@ sum-undo c l h k n a e i = go (eqb k c) refl
   where
     w : Named l h k n a
     w = names l h k n a e
-
-    tidy : (p q r : Bool) → (p && not (q || r)) ≡ (p && not r && not q)
-    tidy true true true = refl
-    tidy true true false = refl
-    tidy true false true = refl
-    tidy true false false = refl
-    tidy false q r = refl
 
     -- the named change was not undone before
     stood : eqb k c ≡ true → standsIn c l (w .x) ≡ true
@@ -97,7 +93,8 @@ sum-undo c l h k n a e i = go (eqb k c) refl
     go : (t : Bool) → eqb k c ≡ t → standingSum c (after l (undo h k n a)) ≡ standingSum c l +ℤ cond t (negℤ a) (pos 0)
     go true q =
         let less = amounts-less (standsIn c l) (l .changes) (w .x) (i .falling) (w .mem) (stood q) in
-        ap amounts (keep-same _ (λ y. standsIn c l y && not (eqb (y .row) (w .x .row))) (l .changes) (λ y m. rw (w .row) (tidy (eqb (y .cell) c) (eqb (y .row) n) (isUndone l y)))) ∙
+        ap amounts (keep-same _ (λ y. standsIn c l y && not (eqb (y .row) (w .x .row))) (l .changes)
+        (λ y m. rw (w .row) (and-not-or (eqb (y .cell) c) (eqb (y .row) n) (isUndone l y)))) ∙
         sym (+ℤ-negℤ-cancel _ a) ∙ ap (λ (z : ℤ). z +ℤ negℤ a) (rw (eqZ-true (w .x .amount) a (w .amount)) at less)
     go false q = ap amounts (keep-same _ (standsIn c l) (l .changes) (λ y m. other y m q (eqb (y .row) n) refl)) ∙ sym (+ℤ-idr (standingSum c l))
 
@@ -110,7 +107,8 @@ sum-after c l (undo h k n a) e i = sum-undo c l h k n a e i
 sum-after c l (commit v) e i = sym (+ℤ-idr (standingSum c l))
 sum-after c l (abort v) e i = sym (+ℤ-idr (standingSum c l))
 
-sum-all : (c : ℕ) (l : Ledger) (rs : List Row) → allAllowed l rs ≡ true → Inv l → standingSum c (foldl after l rs) ≡ standingSum c l +ℤ total (map (movedBy c) rs)
+sum-all : (c : ℕ) (l : Ledger) (rs : List Row) → allAllowed l rs ≡ true → Inv l
+    → standingSum c (foldl after l rs) ≡ standingSum c l +ℤ total (map (movedBy c) rs)
 sum-all c l [] e i = sym (+ℤ-idr (standingSum c l))
 sum-all c l (r ∷ rs) e i =
     let al = and-l (allowed l r) _ e in

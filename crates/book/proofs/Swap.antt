@@ -29,16 +29,19 @@ pass-swap g r g′ r′ c d x ne = go (eqb (x .cell) c) refl
     go true p =
         let is = eqb-true (x .cell) c p in
         let q : eqb (x .cell) d ≡ false = ne-eqb (x .cell) d (λ e. ne (sym is ∙ e)) in
-        pass-other g′ r′ d (pass g r (only c) x) (ap (λ (k : ℕ). eqb k d) (pass-cell g r (only c) x) ∙ q) ∙ sym (ap (pass g r (only c)) (pass-other g′ r′ d x q))
+        pass-other g′ r′ d (pass g r (only c) x) (ap (λ (k : ℕ). eqb k d) (pass-cell g r (only c) x) ∙ q) ∙
+        sym (ap (pass g r (only c)) (pass-other g′ r′ d x q))
     go false p =
         ap (pass g′ r′ (only d)) (pass-other g r c x p) ∙
         sym (pass-other g r c (pass g′ r′ (only d) x) (ap (λ (k : ℕ). eqb k c) (pass-cell g′ r′ (only d) x) ∙ p))
 
-pass-swap-all : (g r g′ r′ c d : ℕ) (xs : List Change) → c ≢ d → map (pass g′ r′ (only d)) (map (pass g r (only c)) xs) ≡ map (pass g r (only c)) (map (pass g′ r′ (only d)) xs)
+pass-swap-all : (g r g′ r′ c d : ℕ) (xs : List Change) → c ≢ d
+    → map (pass g′ r′ (only d)) (map (pass g r (only c)) xs) ≡ map (pass g r (only c)) (map (pass g′ r′ (only d)) xs)
 pass-swap-all g r g′ r′ c d [] ne = refl
 pass-swap-all g r g′ r′ c d (x ∷ xs) ne = ap₂ _∷_ (pass-swap g r g′ r′ c d x ne) (pass-swap-all g r g′ r′ c d xs ne)
 
-pub hand-overs-swap : (l : Ledger) (g r g′ r′ c d : ℕ) → c ≢ d → after (after l (handOver g r c)) (handOver g′ r′ d) ≡ after (after l (handOver g′ r′ d)) (handOver g r c)
+pub hand-overs-swap : (l : Ledger) (g r g′ r′ c d : ℕ) → c ≢ d
+    → after (after l (handOver g r c)) (handOver g′ r′ d) ≡ after (after l (handOver g′ r′ d)) (handOver g r c)
 unfolding after
 hand-overs-swap l g r g′ r′ c d ne = ap (λ (xs : List Change). record {
   rows = suc (suc (l .rows));

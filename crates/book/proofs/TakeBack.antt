@@ -3,7 +3,7 @@
 use Prim.Native.Nat.{ℕ}
 use native.Mathlib.Omega.{arith}
 use mathlib.Core.Path.{_≡_, refl, ap, ap₂, sym, _∙_}
-use mathlib.Core.Bool.{Bool, true, false, cond, not, _&&_, _||_, and-false}
+use mathlib.Core.Bool.{Bool, true, false, cond, not, _&&_, and-false}
 use mathlib.Core.List.{List, [], _∷_, _++_, map, List·Memᴰ·not-nil}
 use lib.Dec.{eqb}
 use borrow.Author.Tests.{eqb-true, eq-eqb, ne-eqb, le-leb}
@@ -13,7 +13,7 @@ use Rattle.book.specs.Rows.{Row, isVisit, isCell, isRowNumber, fits}
 use Rattle.book.specs.Ledger.{Change, Ledger, after, ledger}
 use Rattle.book.specs.Rules.{isActive, bearsUndo, isUndone, isOpenChange, openChanges, openHeld, just, isFirst, lawful, withinLimits, allowed, allAllowed, allowedLog}
 use Rattle.book.specs.Book.{undoOf, takeBack, everyone, closing}
-use Rattle.book.proofs.Lists.{clash, is-false, not-is, and-l, and-r, and-i, eqb-sym, eqZ-refl, foldl-append, here, in-keep, keep-in, keep-same, keep-all, keep-none, keep-keep, keep-swap, any-none, member-in, stays-in, goes}
+use Rattle.book.proofs.Lists.{clash, is-false, not-is, and-l, and-r, and-i, and-not-or, eqb-sym, eqZ-refl, foldl-append, here, in-keep, keep-in, keep-same, keep-all, keep-none, keep-keep, keep-swap, any-none, member-in, stays-in, goes}
 use Rattle.book.proofs.Logs.{allowed-append, ledger-append}
 use Rattle.book.proofs.Invariant.{Inv, Falling, Sinking, same-row, falling-keep, sinking-keep}
 use Rattle.book.proofs.InvariantKept.{inv-after, inv-log}
@@ -31,20 +31,16 @@ undo-allowed l x ys i e =
     let number : isRowNumber (x .row) ≡ true = and-i _ _ (le-leb 1 (x .row) (d .low)) (le-leb (x .row) rowLimit (omega arith)) in
     let first : isFirst (openHeld (just (x .holder)) l) (x .row) (x .cell) (x .amount) ≡ true =
     rw e (and-i _ _ (and-i _ _ (eq-eqb (x .row) (x .row) refl) (eq-eqb (x .cell) (x .cell) refl)) (eqZ-refl (x .amount))) in
-    let fit : fits (undoOf x) ≡ true = and-i _ _ (and-i _ _ (and-i _ _ visit (and-l (isCell (x .cell)) _ (d .fit))) number) (and-r (isCell (x .cell)) _ (d .fit)) in
+    let fit : fits (undoOf x) ≡ true =
+    and-i _ _ (and-i _ _ (and-i _ _ visit (and-l (isCell (x .cell)) _ (d .fit))) number) (and-r (isCell (x .cell)) _ (d .fit)) in
     and-i _ _ (and-i _ _ fit first) refl
 
 -- the open changes after it: all others
 undo-open : (l : Ledger) (x : Change) → openChanges (after l (undoOf x)) ≡ keep (λ y. not (eqb (y .row) (x .row))) (openChanges l)
 unfolding after
-undo-open l x = keep-same _ _ (l .changes) (λ y m. tidy (isActive l (y .holder)) (eqb (y .row) (x .row)) (isUndone l y)) ∙ sym (keep-keep _ (isOpenChange l) (l .changes))
-  where
-    tidy : (p q r : Bool) → (p && not (q || r)) ≡ (p && not r && not q)
-    tidy true true true = refl
-    tidy true true false = refl
-    tidy true false true = refl
-    tidy true false false = refl
-    tidy false q r = refl
+undo-open l x =
+    keep-same _ _ (l .changes) (λ y m. and-not-or (isActive l (y .holder)) (eqb (y .row) (x .row)) (isUndone l y)) ∙
+    sym (keep-keep _ (isOpenChange l) (l .changes))
 
 -- an active visit with no open change may end by an abort row
 abort-allowed : (l : Ledger) (v : ℕ) → Inv l → isActive l v ≡ true → openHeld (just v) l ≡ [] → allowed l (Row.abort v) ≡ true
@@ -59,7 +55,8 @@ abort-open : (l : Ledger) (v : ℕ) → openHeld (just v) l ≡ [] → openChang
 unfolding after
 abort-open l v e = keep-same _ _ (l .changes) (λ x m. go x m (eqb (x .holder) v) refl)
   where
-    go : (x : Change) → In x (l .changes) → (t : Bool) → eqb (x .holder) v ≡ t → (member (x .holder) (without v (l .active)) && not (isUndone l x)) ≡ isOpenChange l x
+    go : (x : Change) → In x (l .changes) → (t : Bool) → eqb (x .holder) v ≡ t
+        → (member (x .holder) (without v (l .active)) && not (isUndone l x)) ≡ isOpenChange l x
     go x m true q =
         let none : isOpenChange l x ≡ false = is-false _ (λ o.
         List·Memᴰ·not-nil (rw e at (keep-in (λ y. just v (y .holder)) (keep-in (isOpenChange l) m o) q))) in
@@ -85,7 +82,8 @@ module _ (who : ℕ → Bool) where
     changes : foldl after l rs .changes ≡ l .changes
 
   -- the undo rows
-  undo-all : (xs : List Change) (l : Ledger) → openHeld who l ≡ xs → Inv l → Left l (map undoOf xs) × (foldl after l (map undoOf xs) .active ≡ l .active)
+  undo-all : (xs : List Change) (l : Ledger) → openHeld who l ≡ xs → Inv l
+      → Left l (map undoOf xs) × (foldl after l (map undoOf xs) .active ≡ l .active)
   unfolding after
   undo-all [] l e i = (record { good = refl; inv = i; still = refl; none = e; bears = λ u q. refl; begun = refl; committed = refl; changes = refl }, refl)
   undo-all (x ∷ xs) l e i =
@@ -110,7 +108,8 @@ module _ (who : ℕ → Bool) where
       -- it is the first of its holder's too
       own : who (x .holder) ≡ true → openHeld (just (x .holder)) l ≡ x ∷ keep (λ y. just (x .holder) (y .holder)) xs
       own w =
-          keep-same _ _ (openChanges l) (λ y m. its y (eqb (y .holder) (x .holder)) refl) ∙ sym (keep-keep (λ y. just (x .holder) (y .holder)) (λ y. who (y .holder)) (openChanges l)) ∙
+          keep-same _ _ (openChanges l) (λ y m. its y (eqb (y .holder) (x .holder)) refl) ∙
+          sym (keep-keep (λ y. just (x .holder) (y .holder)) (λ y. who (y .holder)) (openChanges l)) ∙
           ap (keep (λ y. just (x .holder) (y .holder))) e ∙ rw (eq-eqb (x .holder) (x .holder) refl)
         where
           its : (y : Change) (t : Bool) → eqb (y .holder) (x .holder) ≡ t → t ≡ (who (y .holder) && t)
@@ -126,7 +125,8 @@ module _ (who : ℕ → Bool) where
       -- the open changes of the other visits are left as they were
       rest : In x (openChanges l) → who (x .holder) ≡ true → keep others (openChanges (after l (undoOf x))) ≡ keep others (openChanges l)
       rest m w =
-          ap (keep others) (undo-open l x) ∙ keep-swap _ _ (openChanges l) ∙ keep-all _ (keep others (openChanges l)) (λ y n. its y (in-keep others (openChanges l) y n))
+          ap (keep others) (undo-open l x) ∙ keep-swap _ _ (openChanges l) ∙
+          keep-all _ (keep others (openChanges l)) (λ y n. its y (in-keep others (openChanges l) y n))
         where
           its : (y : Change) → In y (openChanges l) × (others y ≡ true) → not (eqb (y .row) (x .row)) ≡ true
           its y k = rw (ne-eqb (y .row) (x .row) (λ q. clash _ w (sym (ap (λ (z : Change). who (z .holder))
@@ -209,7 +209,8 @@ take-back who l i =
     let mid = foldl after l (map undoOf xs) in
     let u = undo-all who xs l refl i in
     let a = abort-all who vs mid (ap (keep who) (u .1)) (u .0 .none) (u .0 .inv) in
-    let is : foldl after l (map undoOf xs ++ map Row.abort vs) ≡ foldl after mid (map Row.abort vs) = foldl-append after l (map undoOf xs) (map Row.abort vs) in
+    let is : foldl after l (map undoOf xs ++ map Row.abort vs) ≡ foldl after mid (map Row.abort vs) =
+    foldl-append after l (map undoOf xs) (map Row.abort vs) in
     record {
       good = rw (allowed-append l (map undoOf xs) (map Row.abort vs)) (and-i _ _ (u .0 .good) (a .0 .good));
       inv = rw is (a .0 .inv);

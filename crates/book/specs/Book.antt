@@ -40,7 +40,6 @@ abbrev pub _else_ : ℕ × Bool → ℕ → ℕ
 _else_ check later = cond (check .1) (check .0) later
 
 infixr 20 _else_
-
 -- 01: "Refusals by place", from begin on, in checking order; 0 where none applies
 unfoldable pub refusal : Book → Call → ℕ
 refusal b Call.begin =
