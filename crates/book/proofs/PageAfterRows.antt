@@ -1,39 +1,20 @@
 -- 01: flush forces the tail up to the page's mark, then writes the page. So when the page is stored, no change or undo row of the page waits.
-use Prim.Native.Nat.{ℕ, zero, suc, _≤_}
+use Prim.Native.Nat.{ℕ, zero, suc}
 use native.Mathlib.Omega.{arith}
 use mathlib.Core.Path.{_≡_, refl, ap, _∙_}
-use mathlib.Core.Bool.{Bool, true, false, cond, _||_}
+use mathlib.Core.Bool.{Bool, true, false}
 use mathlib.Core.List.{List, [], _∷_, _++_}
-use lib.ListN.{length, drop, drop-of-length-le}
-use lib.Dec.{leb}
+use lib.ListN.{drop, drop-of-length-le}
 use Rattle.book.specs.Lists.{times}
 use Rattle.book.specs.Rows.{Row}
-use Rattle.book.specs.Cells.{onPage, lastOn}
+use Rattle.book.specs.Cells.{lastOn}
 use Rattle.book.specs.Calls.{flushes}
 use Rattle.book.specs.Power.{Book, Fuse, none, left, storeRow, storePage}
 use Rattle.book.specs.Book.{finish}
 use Rattle.book.proofs.Lists.{clash}
 use Rattle.book.proofs.Steps.{bookOf}
 use Rattle.book.proofs.Force.{times-closed}
-
--- after the page's last row there is none of the page
-pub last-dropped : (p : ℕ) (rs : List Row) → lastOn p (drop (lastOn p rs) rs) ≡ 0
-last-dropped p [] = refl
-last-dropped p (r ∷ rs) = go (leb 1 (lastOn p rs) || onPage p r) refl (last-dropped p rs)
-  where
-    go : (t : Bool) → (leb 1 (lastOn p rs) || onPage p r) ≡ t → lastOn p (drop (lastOn p rs) rs) ≡ 0
-        → lastOn p (drop (cond t (suc (lastOn p rs)) 0) (r ∷ rs)) ≡ 0
-    go true e ih = ih
-    go false e ih = rw e
-
--- the page's last row is one of them
-pub last-within : (p : ℕ) (rs : List Row) → lastOn p rs ≤ length rs
-last-within p [] = omega arith
-last-within p (r ∷ rs) = go (leb 1 (lastOn p rs) || onPage p r) (last-within p rs)
-  where
-    go : (t : Bool) → lastOn p rs ≤ length rs → cond t (suc (lastOn p rs)) 0 ≤ suc (length rs)
-    go true h = omega arith
-    go false h = omega arith
+use Rattle.book.proofs.Marks.{last-drop}
 
 -- n rows of the tail stored one by one leave the rest waiting, where the book is open after them
 waits-after : (n : ℕ) (w s : List Row) (f : Fuse) → times n storeRow (bookOf s w f true) .isOpen ≡ true
@@ -62,5 +43,5 @@ flush-stores b p o = go (b .stored) (b .waiting) (b .fuse) (b .isOpen) o
         → lastOn p (finish (flushes p) (bookOf s w f t) .waiting) ≡ 0
     go s w f true e q =
         let k = page-waits (times (lastOn p w) storeRow (bookOf s w f true)) q in
-        ap (lastOn p) (k .1 ∙ waits-after (lastOn p w) w s f (k .0)) ∙ last-dropped p w
+        ap (lastOn p) (k .1 ∙ waits-after (lastOn p w) w s f (k .0)) ∙ last-drop p w
     go s w f false e q = clash _ e refl
