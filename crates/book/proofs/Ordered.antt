@@ -2,8 +2,8 @@
 -- and in a scope the later changes are undone first. `Standing` draws from it what an undo leaves of a scope.
 use Prim.Native.Nat.{ℕ, suc, _≤_, _<_}
 use native.Mathlib.Omega.{arith}
-use mathlib.Core.Path.{_≡_, refl, ap, sym, _∙_, subst, subst₂}
-use mathlib.Core.Bool.{Bool, true, false, cond, not, _&&_, _||_}
+use mathlib.Core.Path.{_≡_, refl, ap, sym, _∙_, subst}
+use mathlib.Core.Bool.{Bool, true, false, cond, not, _||_}
 use mathlib.Core.Logic.{_⊎_, inl, inr}
 use mathlib.Core.List.{List, [], _∷_, map, Memᴰ·of-map, List·Memᴰ·not-nil, List·Memᴰ·cases-cons}
 use lib.IntN.{ℤ}
@@ -12,9 +12,9 @@ use borrow.Author.Tests.{eqb-true, eq-eqb}
 use Rattle.book.specs.Lists.{In, foldl, member}
 use Rattle.book.specs.Rows.{Row, begin, change, handOver, undo, commit, abort}
 use Rattle.book.specs.Ledger.{Change, Ledger, empty, newChange, holds, given, pass, only, after, ledger}
-use Rattle.book.specs.Rules.{isActive, bearsUndo, isUndone, isOpenChange, lawful, allowed, allAllowed, allowedLog}
+use Rattle.book.specs.Rules.{isActive, bearsUndo, isUndone, lawful, allowed, allAllowed, allowedLog}
 use Rattle.book.specs.Book.{undoOf}
-use Rattle.book.proofs.Lists.{clash, and-i, and-l, and-r, or-r, not-is, is-false}
+use Rattle.book.proofs.Lists.{clash, and-i, and-l, and-r, or-r, not-is}
 use Rattle.book.proofs.Invariant.{Inv, same-row, pass-cases, pass-row}
 use Rattle.book.proofs.InvariantKept.{inv-after, inv-empty}
 use Rattle.book.proofs.Scoped.{Scoped, NewScope, grows, starts, new-scope, continued, pass-scope, unpassed, scoped-after, scoped-empty}
@@ -22,7 +22,7 @@ use Rattle.book.proofs.SameScope.{same-scope, continues-if}
 use Rattle.book.proofs.Top.{Top, top-first, undoes}
 
 -- two changes of one cell by one maker
-pub record Kin (x y : Change) : Type 0 where
+pub record SameOrigin (x y : Change) : Type 0 where
   pub maker : x .maker ≡ y .maker
   pub cell : x .cell ≡ y .cell
 
@@ -30,9 +30,9 @@ pub record Ordered (l : Ledger) : Type 0 where
   -- a scope starts with its lowest row
   pub low : (x : Change) → In x (l .changes) → x .scope ≤ x .row
   -- the later of two is of the same scope or of a later one
-  pub rises : (x y : Change) → In x (l .changes) → In y (l .changes) → Kin x y → x .row ≤ y .row → x .scope ≤ y .scope
+  pub rises : (x y : Change) → In x (l .changes) → In y (l .changes) → SameOrigin x y → x .row ≤ y .row → x .scope ≤ y .scope
   -- what was handed over is older than what was not
-  pub newer : (x y : Change) → In x (l .changes) → In y (l .changes) → Kin x y → x .handed ≡ true → y .handed ≡ false → x .row < y .row
+  pub newer : (x y : Change) → In x (l .changes) → In y (l .changes) → SameOrigin x y → x .handed ≡ true → y .handed ≡ false → x .row < y .row
   -- in a scope the later changes are undone first
   pub sinks : (x y : Change) → In x (l .changes) → In y (l .changes) → x .scope ≡ y .scope → x .row < y .row → isUndone l x ≡ true → isUndone l y ≡ true
 
@@ -66,9 +66,9 @@ module _ (l : Ledger) (v c : ℕ) (a : ℤ) (clean : bearsUndo l v ≡ false) (i
           its false h = let s = S .single v c x y m n (continues-if v c x p q h) k in omega arith
           its true h =
               let f = continued v c y k in
-              let kin : Kin x y = record { maker = p ∙ sym (f .0); cell = q ∙ sym (f .1) } in
-              let r = O .newer x y m n kin h (f .2) in
-              let s = O .rises x y m n kin (omega arith) in omega arith
+              let origin : SameOrigin x y = record { maker = p ∙ sym (f .0); cell = q ∙ sym (f .1) } in
+              let r = O .newer x y m n origin h (f .2) in
+              let s = O .rises x y m n origin (omega arith) in omega arith
 
   -- no undone change is of its scope
   new-clean : (x : Change) → In x (l .changes) → x .scope ≡ newChange l v c a .scope → isUndone l x ≡ true → ⊥
@@ -95,7 +95,7 @@ module _ (l : Ledger) (v c : ℕ) (a : ℤ) (clean : bearsUndo l v ≡ false) (i
       low {x} (inr m) = O .low x m
 
       rises : (x y : Change) → (x ≡ newChange l v c a) ⊎ In x (l .changes) → (y ≡ newChange l v c a) ⊎ In y (l .changes)
-          → Kin x y → x .row ≤ y .row → x .scope ≤ y .scope
+          → SameOrigin x y → x .row ≤ y .row → x .scope ≤ y .scope
       rises x y (inl e) (inl f) p h = let s = ap (λ (w : Change). w .scope) (e ∙ sym f) in omega arith
       rises x y (inl e) (inr n) p h = let r = i .good y n .row in let s = ap (λ (w : Change). w .row) e in absurd (omega arith)
       rises x y (inr m) (inl f) p h =
@@ -104,7 +104,7 @@ module _ (l : Ledger) (v c : ℕ) (a : ℤ) (clean : bearsUndo l v ≡ false) (i
       rises x y (inr m) (inr n) p h = O .rises x y m n p h
 
       newer : (x y : Change) → (x ≡ newChange l v c a) ⊎ In x (l .changes) → (y ≡ newChange l v c a) ⊎ In y (l .changes)
-          → Kin x y → x .handed ≡ true → y .handed ≡ false → x .row < y .row
+          → SameOrigin x y → x .handed ≡ true → y .handed ≡ false → x .row < y .row
       newer x y (inl e) g p h k = clash _ h (ap (λ (w : Change). w .handed) e)
       newer x y (inr m) (inl f) p h k = let r = i .good x m .row in let s = ap (λ (w : Change). w .row) f in omega arith
       newer x y (inr m) (inr n) p h k = O .newer x y m n p h k
@@ -131,7 +131,7 @@ does-pass : (g r : ℕ) (cs : ℕ → Bool) (x : Change) → x .holder ≡ g →
 does-pass g r cs x p q = rw (eq-eqb (x .holder) g p, q)
 
 module _ (l : Ledger) (g r : ℕ) (cs : ℕ → Bool) (S : Scoped (l .changes)) (O : Ordered l) where
-  newer-pass : (x y : Change) → In x (l .changes) → In y (l .changes) → Kin x y → pass g r cs x .handed ≡ true → pass g r cs y .handed ≡ false
+  newer-pass : (x y : Change) → In x (l .changes) → In y (l .changes) → SameOrigin x y → pass g r cs x .handed ≡ true → pass g r cs y .handed ≡ false
       → x .row < y .row
   newer-pass x y m n p h k = go (passed g r cs x h)
     where
@@ -147,16 +147,16 @@ module _ (l : Ledger) (g r : ℕ) (cs : ℕ → Bool) (S : Scoped (l .changes)) 
           its false f = clash _ (does-pass g r cs y (S .own y n kept ∙ sym (p .maker) ∙ sym (S .own x m f) ∙ e .0) (ap cs (sym (p .cell)) ∙ e .1)) k
 
   -- what a passed change was
-  record Was (x : Change) : Type 0 where
+  record Earlier (x : Change) : Type 0 where
     w : Change
     mem : In w (l .changes)
     is : pass g r cs w ≡ x
     row : x .row ≡ w .row
     scope : x .scope ≡ w .scope
-    kin : Kin w x
+    origin : SameOrigin w x
 
-  was : (x : Change) → In x (map (pass g r cs) (l .changes)) → Was x
-  was x m =
+  earlier : (x : Change) → In x (map (pass g r cs) (l .changes)) → Earlier x
+  earlier x m =
       let k = Memᴰ·of-map (pass g r cs) (l .changes) m in
       record {
         w = k .0;
@@ -164,14 +164,14 @@ module _ (l : Ledger) (g r : ℕ) (cs : ℕ → Bool) (S : Scoped (l .changes)) 
         is = k .2;
         row = ap (λ (z : Change). z .row) (sym (k .2)) ∙ pass-row g r cs (k .0);
         scope = ap (λ (z : Change). z .scope) (sym (k .2)) ∙ pass-scope g r cs (k .0);
-        kin = subst (λ (z : Change). Kin (k .0) z) (k .2)
-            (pass-cases (λ (z : Change). Kin (k .0) z) g r cs (k .0) (λ e. record { maker = refl; cell = refl }) (record { maker = refl; cell = refl }));
+        origin = subst (λ (z : Change). SameOrigin (k .0) z) (k .2)
+            (pass-cases (λ (z : Change). SameOrigin (k .0) z) g r cs (k .0) (λ e. record { maker = refl; cell = refl }) (record { maker = refl; cell = refl }));
       }
 
-  was-kin : (x y : Change) (p : Was x) (q : Was y) → Kin x y → Kin (p .w) (q .w)
-  was-kin x y p q k = record {
-    maker = p .kin .maker ∙ k .maker ∙ sym (q .kin .maker);
-    cell = p .kin .cell ∙ k .cell ∙ sym (q .kin .cell);
+  earlier-origin : (x y : Change) (p : Earlier x) (q : Earlier y) → SameOrigin x y → SameOrigin (p .w) (q .w)
+  earlier-origin x y p q k = record {
+    maker = p .origin .maker ∙ k .maker ∙ sym (q .origin .maker);
+    cell = p .origin .cell ∙ k .cell ∙ sym (q .origin .cell);
   }
 
   ordered-pass : (n : ℕ) → Ordered (record {
@@ -184,18 +184,18 @@ module _ (l : Ledger) (g r : ℕ) (cs : ℕ → Bool) (S : Scoped (l .changes)) 
     changes = map (pass g r cs) (l .changes);
   })
   ordered-pass n₀ = record {
-    low = λ x m. let p = was x m in let k = O .low (p .w) (p .mem) in let s = p .scope in let t = p .row in omega arith;
+    low = λ x m. let p = earlier x m in let k = O .low (p .w) (p .mem) in let s = p .scope in let t = p .row in omega arith;
     rises = λ x y m n k h.
-        let p = was x m in let q = was y n in
+        let p = earlier x m in let q = earlier y n in
         let s = p .scope in let t = q .scope in let a = p .row in let b = q .row in
-        let le = O .rises (p .w) (q .w) (p .mem) (q .mem) (was-kin x y p q k) (omega arith) in omega arith;
+        let le = O .rises (p .w) (q .w) (p .mem) (q .mem) (earlier-origin x y p q k) (omega arith) in omega arith;
     newer = λ x y m n k h f.
-        let p = was x m in let q = was y n in
+        let p = earlier x m in let q = earlier y n in
         let a = p .row in let b = q .row in
-        let lt = newer-pass (p .w) (q .w) (p .mem) (q .mem) (was-kin x y p q k)
+        let lt = newer-pass (p .w) (q .w) (p .mem) (q .mem) (earlier-origin x y p q k)
         (ap (λ (z : Change). z .handed) (p .is) ∙ h) (ap (λ (z : Change). z .handed) (q .is) ∙ f) in omega arith;
     sinks = λ x y m n s h u.
-        let p = was x m in let q = was y n in
+        let p = earlier x m in let q = earlier y n in
         let a = p .row in let b = q .row in
         let un = O .sinks (p .w) (q .w) (p .mem) (q .mem) (sym (p .scope) ∙ s ∙ q .scope) (omega arith)
         (subst (λ (t : ℕ). member t (l .undone) ≡ true) a u) in subst (λ (t : ℕ). member t (l .undone) ≡ true) (sym b) un;

@@ -4,8 +4,8 @@ use native.Mathlib.Omega.{arith}
 use mathlib.Core.Path.{_≡_, refl, ap, sym, _∙_, subst}
 use mathlib.Core.Bool.{Bool, true, false}
 use mathlib.Core.Logic.{_⊎_, inl, inr}
-use mathlib.Core.List.{List, [], _∷_, _++_, append-assoc, append-nil, map, Memᴰ·map, Memᴰ·of-map, List·Memᴰ·not-nil, List·Memᴰ·cases-cons}
-use lib.ListN.{length, getD, length-append, List·getD-append, List·getD-eq-default}
+use mathlib.Core.List.{List, [], _∷_, _++_, append-assoc, append-nil, Memᴰ·map, Memᴰ·of-map, List·Memᴰ·not-nil, List·Memᴰ·cases-cons}
+use lib.ListN.{length, getD, length-append, List·getD-append}
 use lib.Seq.{getD-append-seam}
 use lib.IntN.{ℤ}
 use lib.Dec.{ltb}
@@ -28,7 +28,8 @@ same-refl : (x : Change) → SameChange x x
 same-refl x = record { row = refl; maker = refl; cell = refl; amount = refl }
 
 same-pass : (g r : ℕ) (cs : ℕ → Bool) (x : Change) → SameChange x (pass g r cs x)
-same-pass g r cs x = pass-cases (λ (y : Change). SameChange x y) g r cs x (λ e. record { row = refl; maker = refl; cell = refl; amount = refl }) (same-refl x)
+same-pass g r cs x =
+    pass-cases (λ (y : Change). SameChange x y) g r cs x (λ e. record { row = refl; maker = refl; cell = refl; amount = refl }) (same-refl x)
 
 -- ── One row more ──────────────────────────────────────────────────────────────────────────────────────────────────────
 
@@ -139,10 +140,12 @@ module _ (rs : List Row) (l : Ledger) (R : Recorded rs l) (r : Row) where
 recorded-all : (done rs : List Row) (l : Ledger) → Recorded done l → Recorded (done ++ rs) (foldl after l rs)
 recorded-all done [] l R = rw (append-nil done) R
 recorded-all done (r ∷ rs) l R =
-    subst (λ (xs : List Row). Recorded xs (foldl after (after l r) rs)) (append-assoc done (r ∷ []) rs) (recorded-all (done ++ (r ∷ [])) rs (after l r) (recorded-after done l R r))
+    subst (λ (xs : List Row). Recorded xs (foldl after (after l r) rs)) (append-assoc done (r ∷ []) rs)
+    (recorded-all (done ++ (r ∷ [])) rs (after l r) (recorded-after done l R r))
 
 recorded : (rs : List Row) → Recorded rs (ledger rs)
-recorded rs = recorded-all [] rs empty (record { count = refl; writes = λ x m. absurd (List·Memᴰ·not-nil m); reads = λ at v c a lt. absurd (omega arith) })
+recorded rs = recorded-all [] rs empty
+    (record { count = refl; writes = λ x m. absurd (List·Memᴰ·not-nil m); reads = λ at v c a lt. absurd (omega arith) })
 
 -- a change of the ledger stands in the log
 pub row-of : (rs : List Row) (x : Change) → In x (ledger rs .changes) → rowAt rs (x .row) ≡ change (x .maker) (x .cell) (x .amount)

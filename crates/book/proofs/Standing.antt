@@ -1,23 +1,22 @@
 -- The changes of a scope that no undo row names: who holds them, what an undo leaves of them, and that the scopes in use have all open changes.
-use Prim.Native.Nat.{ℕ, suc, _+_, _≤_, _<_}
+use Prim.Native.Nat.{ℕ, _≤_}
 use native.Mathlib.Omega.{arith}
 use mathlib.Core.Path.{_≡_, refl, ap, sym, _∙_}
-use mathlib.Core.Bool.{Bool, true, false, cond, not, _&&_, _||_}
-use mathlib.Core.List.{List, [], _∷_, List·Memᴰ·head, List·Memᴰ·tail}
-use lib.ListN.{length}
+use mathlib.Core.Bool.{Bool, true, false, not, _&&_, _||_}
+use mathlib.Core.List.{List, _∷_, List·Memᴰ·head, List·Memᴰ·tail}
 use lib.Dec.{eqb, leb, ltb}
-use borrow.Author.Tests.{eqb-true, eq-eqb, eqb-false, ne-eqb, leb-true, le-leb, ltb-true, ltb-false, lt-ltb}
-use Rattle.book.specs.Lists.{In, keep, any}
+use borrow.Author.Tests.{eqb-true, eq-eqb, eqb-false, ne-eqb, leb-true, le-leb, ltb-true, ltb-false}
+use Rattle.book.specs.Lists.{In, keep}
 use Rattle.book.specs.Ledger.{Change, Ledger, after}
-use Rattle.book.specs.Rules.{isActive, isUndone, isOpenChange, openChanges, startsInUse}
+use Rattle.book.specs.Rules.{isActive, isUndone, isOpenChange, startsInUse}
 use Rattle.book.specs.Scopes.{standing}
 use Rattle.book.specs.Book.{undoOf}
-use Rattle.book.proofs.Lists.{clash, and-i, and-l, and-r, or-l, or-r, not-is, not-or-l, not-or-r, is-false, here, there, in-keep, keep-in, keep-same, keep-all, keep-keep}
+use Rattle.book.proofs.Lists.{clash, and-i, and-l, and-r, not-is, not-or-l, not-or-r, is-false, here, in-keep, keep-in, keep-same, keep-all, keep-keep}
 use Rattle.book.proofs.Invariant.{Inv, Falling, same-row, falling-keep}
 use Rattle.book.proofs.Scoped.{Alike, Scoped}
 use Rattle.book.proofs.SameScope.{alike-start, same-scope}
 use Rattle.book.proofs.Top.{Top}
-use Rattle.book.proofs.Ordered.{Kin, Ordered, above-undone}
+use Rattle.book.proofs.Ordered.{Ordered, above-undone}
 
 -- ── Scopes in use and open changes ────────────────────────────────────────────────────────────────────────────────────
 
@@ -62,13 +61,13 @@ module _ (l : Ledger) (i : Inv l) (S : Scoped (l .changes)) where
       }
 
   -- an open change stands in a scope in use
-  pub record Stood (y : Change) : Type 0 where
+  pub record StandsIn (y : Change) : Type 0 where
     pub s : Change
     pub mem : In s (starts l)
     pub stand : In y (standing l (s .row))
     pub alike : Alike s y
 
-  pub open-standing : (y : Change) → In y (l .changes) → isOpenChange l y ≡ true → Stood y
+  pub open-standing : (y : Change) → In y (l .changes) → isOpenChange l y ≡ true → StandsIn y
   open-standing y m o =
       let d = S .started y m in
       record {

@@ -1,16 +1,16 @@
 -- The change that an undo row undoes: an open change, the highest that its holder has (`Top`). Abort and openings undo such changes too.
-use Prim.Native.Nat.{ℕ, suc, _≤_, _<_}
+use Prim.Native.Nat.{ℕ, _≤_}
 use native.Mathlib.Omega.{arith}
-use mathlib.Core.Path.{_≡_, refl, ap, sym, _∙_, subst}
-use mathlib.Core.Bool.{Bool, true, false, _&&_}
+use mathlib.Core.Path.{_≡_, refl, ap, _∙_, subst}
+use mathlib.Core.Bool.{Bool, true, false}
 use mathlib.Core.List.{List, [], _∷_}
 use lib.IntN.{ℤ}
 use lib.Dec.{eqb}
 use borrow.Author.Tests.{eqb-true}
-use Rattle.book.specs.Lists.{In, keep, eqZ}
-use Rattle.book.specs.Rows.{Row, undo}
+use Rattle.book.specs.Lists.{In, eqZ}
+use Rattle.book.specs.Rows.{undo}
 use Rattle.book.specs.Ledger.{Change, Ledger}
-use Rattle.book.specs.Rules.{isOpenChange, openChanges, openHeld, just, isFirst, lawful, allowed}
+use Rattle.book.specs.Rules.{isOpenChange, openChanges, openHeld, just, isFirst, lawful}
 use Rattle.book.specs.Book.{undoOf}
 use Rattle.book.proofs.Lists.{clash, and-l, and-r, here, in-cons, in-keep, keep-in, eqZ-true}
 use Rattle.book.proofs.Invariant.{Falling, falling-keep}
@@ -22,7 +22,8 @@ pub record Top (l : Ledger) (x : Change) : Type 0 where
   pub above : (y : Change) → In y (l .changes) → isOpenChange l y ≡ true → y .holder ≡ x .holder → y .row ≤ x .row
 
 -- an open change that these visits hold
-pub held-open : (who : ℕ → Bool) (l : Ledger) (y : Change) → In y (openHeld who l) → In y (l .changes) × (isOpenChange l y ≡ true) × (who (y .holder) ≡ true)
+pub held-open : (who : ℕ → Bool) (l : Ledger) (y : Change) → In y (openHeld who l)
+    → In y (l .changes) × (isOpenChange l y ≡ true) × (who (y .holder) ≡ true)
 held-open who l y m =
     let k = in-keep (λ z. who (z .holder)) (openChanges l) y m in
     let o = in-keep (isOpenChange l) (l .changes) y (k .0) in (o .0, o .1, k .1)
