@@ -1,0 +1,15 @@
+-- `charts::page::read_mark` meets its contract. Assumes nothing.
+use borrow.Author.Needs.{needs}
+use Rattle.book.specs.Pages.{pageOf}
+use Rattle.charts.proofs.page.read_mark.Statement.{statement}
+use Rattle.charts.proofs.page.read_mark.Tie as tie
+
+read16-requires : tie.Need-read16-requires
+read16-requires c κs = search needs
+
+returns : tie.Need-returns
+unfolding pageOf
+returns c = c .read16 .ensures
+
+pub read-mark-spec : {M : Type 1} → statement M
+read-mark-spec = tie.close (tie.spec read16-requires returns)

@@ -1,0 +1,106 @@
+-- What the public functions promise: result, state, log, charts, copy and scopes, by equation, refusals too.
+use Prim.Native.Nat.{ℕ, zero, suc, _+_, _*_}
+use mathlib.Core.Bool.{Bool, true, false, cond, not, _&&_}
+use mathlib.Core.Path.{_≡_}
+use mathlib.Core.Logic.{_≢_, _⊎_}
+use mathlib.Core.List.{List, [], _∷_, _++_}
+use lib.ListN.{length, getD, take, drop}
+use lib.IntN.{ℤ, pos}
+use lib.Dec.{ltb, eqb}
+use Rattle.book.specs.Lists.{firstFailing, member}
+use Rattle.book.specs.Limits.{cellLimit, formatBound, pageLength}
+use Rattle.book.specs.Calls.{Call, Ending, waits, forces, flushes, ending}
+use Rattle.book.specs.Power.{Book, Fuse, rowsOf}
+use Rattle.book.specs.Book.{Answer, answer, Outcome, call}
+use Rattle.book.specs.Numbers.{within}
+use Rattle.book.specs.LogBytes.{logBytes}
+use Rattle.book.specs.Pages.{pageBytes, chartBytes, pageAfter}
+use Rattle.book.specs.Opening.{Opened, openBytes}
+use Rattle.state.specs.World.{World, rightLengths, isOpenPhase, stateOf, tableOf, cleared, worldOf, Represents}
+
+-- what a call gives back and leaves
+pub record Result : Type 0 where
+  pub answer : Answer
+  pub world : World
+
+abbrev pub result : ℕ → ℤ → World → Result
+result n v w = record { answer = answer n v; world = w }
+
+-- ── Format and open: for whatever they are handed ─────────────────────────────────────────────────────────────────────
+
+-- the first of the 224 values beyond ±1,000,000, or 224
+abbrev pub badCell : List ℤ → ℕ
+badCell values = firstFailing cellLimit 0 (λ c. within formatBound (getD values c (pos 0)))
+
+-- the formatted value of each cell
+abbrev pub cellsOf : List ℤ → ℕ → ℤ
+cellsOf values c = getD values c (pos 0)
+
+-- 01: format. The 224 values are lent too, so their number counts for refusal 1.
+unfoldable pub formats : List ℤ → World → Result
+formats values w =
+    let at : ℕ = badCell values in
+    cond (not (rightLengths w && eqb (length values) cellLimit)) (result 1 (pos 0) w)
+    (cond (ltb at cellLimit) (result 2 (pos at) w)
+    (result 0 (pos 0) (cleared (logBytes []) (chartBytes (pageAfter (cellsOf values) [])))))
+
+-- what an opening of the stored bytes comes to in the store; it writes no page
+abbrev pub openedWorld : List ℕ → Opened → Result
+openedWorld charts o = record {
+  answer = o .answer;
+  world = record { state = stateOf (o .book); log = o .log; charts = charts; copy = o .copy; scopes = tableOf (o .book) };
+}
+
+-- 01: open. Nothing is taken from state, copy or scopes but their lengths.
+unfoldable pub opens : Fuse → World → Result
+opens f w = cond (rightLengths w) (openedWorld (w .charts) (openBytes f (w .log) (w .charts))) (result 1 (pos 0) w)
+
+pub record FormatPost (values : List ℤ) (given : World) (answer : Answer) (leaves : World) : Type 0 where
+  pub is : record { answer = answer; world = leaves } ≡ formats values given
+
+pub record OpenPost (f : Fuse) (given : World) (answer : Answer) (leaves : World) : Type 0 where
+  pub is : record { answer = answer; world = leaves } ≡ opens f given
+
+-- ── The other calls: for what stands for a book ───────────────────────────────────────────────────────────────────────
+
+-- page p of the charts replaced by these bytes
+abbrev pub withPage : ℕ → List ℕ → List ℕ → List ℕ
+withPage p page charts = take (pageLength * p) charts ++ page ++ drop (pageLength * p + pageLength) charts
+
+-- 01: flush writes the page's 32 bytes, if the power holds; no other call writes a page
+abbrev pub chartsAfter : (ℕ → ℤ) → Book → Ending → ℕ → List ℕ → List ℕ
+chartsAfter cells b waits n charts = charts
+chartsAfter cells b forces n charts = charts
+chartsAfter cells b (flushes p) n charts = cond (eqb n 0) (withPage p (pageBytes (pageAfter cells (rowsOf b) p)) charts) charts
+
+-- what the book makes of the call, and of the values that stand for it
+unfoldable pub byBook : (ℕ → ℤ) → Book → Call → World → Result
+byBook cells b k w =
+    let o : Outcome = call cells b true k in
+    record { answer = o .answer; world = worldOf cells (o .book) (chartsAfter cells b (ending k) (o .answer .number) (w .charts)) }
+
+-- 01: the numbers that a call may answer with, whatever it is handed
+abbrev pub numbers : Call → List ℕ
+numbers Call.begin = 0 ∷ 1 ∷ 5 ∷ 6 ∷ 7 ∷ 8 ∷ []
+numbers (Call.change v c a) = 0 ∷ 1 ∷ 5 ∷ 9 ∷ 10 ∷ 11 ∷ 8 ∷ []
+numbers (Call.handOver g r c) = 0 ∷ 1 ∷ 5 ∷ 9 ∷ 12 ∷ 10 ∷ 13 ∷ 8 ∷ []
+numbers (Call.commit v) = 0 ∷ 1 ∷ 5 ∷ 9 ∷ []
+numbers (Call.abort v) = 0 ∷ 1 ∷ 5 ∷ 9 ∷ []
+numbers Call.force = 0 ∷ 1 ∷ 5 ∷ []
+numbers (Call.flush p) = 0 ∷ 1 ∷ 5 ∷ 14 ∷ []
+numbers (Call.read c) = 0 ∷ 1 ∷ 5 ∷ 10 ∷ []
+
+pub record CallPost (k : Call) (given : World) (answer : Answer) (leaves : World) : Type 0 where
+  pub table : member (answer .number) (numbers k) ≡ true
+  -- a lent buffer has another length: refused by 1, and nothing changes
+  pub lengths : rightLengths given ≡ false → record { answer = answer; world = leaves } ≡ result 1 (pos 0) given
+  -- the store is closed: refused by 5, and nothing changes
+  pub shut : rightLengths given ≡ true → isOpenPhase (given .state .phase) ≡ false → record { answer = answer; world = leaves } ≡ result 5 (pos 0) given
+  -- 00, demand 1: a refusal changes no byte, whatever the call was handed
+  pub keeps : answer .number ≢ 0 → answer .number ≢ 5 → record { answer = answer; world = leaves } ≡ result (answer .number) (pos 0) given
+  -- 01, "Power": the store was closed and is as it was, or the power failed, which leaves the charts, and copy, tail and scopes cleared
+  pub cut : answer .number ≡ 5 →
+      (record { answer = answer; world = leaves } ≡ result 5 (pos 0) given) ⊎
+      (record { answer = answer; world = leaves } ≡ result 5 (pos 0) (cleared (leaves .log) (given .charts)))
+  -- what stands for a book becomes what stands for the book after the call
+  pub is : rightLengths given ≡ true → (cells : ℕ → ℤ) (b : Book) → Represents cells b given → record { answer = answer; world = leaves } ≡ byBook cells b k given

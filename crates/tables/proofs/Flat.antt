@@ -1,0 +1,121 @@
+-- The flat scope table and its entries: how many there are, what stands at each, and what seven stores to one of them do. Assumes nothing.
+use Prim.Native.Nat.{ℕ, zero, suc, _+_, _*_, _≤_, _<_}
+use mathlib.Core.Path.{_≡_, refl, sym, _∙_, ap}
+use mathlib.Core.Logic.{_≢_}
+use mathlib.Core.Bool.{Bool, true, false, not}
+use mathlib.Core.List.{List, [], _∷_, _++_, append-assoc}
+use native.Mathlib.Nat.{not-suc-le-zero, le-of-suc-le-suc, le-refl, add-zero, zero-add, suc-add, add-suc}
+use native.Mathlib.Omega.{arith}
+use lib.ListN.{length, take, drop, set, getD, replicate, List·getD-append}
+use lib.Seq.{sets, sets-eq, getD-append-add, getD-set-other, length-take-le}
+use lib.Dec.{eqb}
+use Rattle.book.specs.Lists.{tabulate}
+use Rattle.book.specs.Scopes.{unused}
+use Rattle.tables.specs.Entries.{entryAt, entries, flag}
+
+-- ── A list by its places ──────────────────────────────────────────────────────────────────────────────────────────────
+
+module _ {A : Type 0} where
+  tabulate-length : (n from : ℕ) (f : ℕ → A) → length (tabulate n from f) ≡ n
+  tabulate-length zero from f = refl
+  tabulate-length (suc n) from f = ap suc (tabulate-length n (suc from) f)
+
+  tabulate-at : (n from i : ℕ) (f : ℕ → A) (d : A) → i < n → getD (tabulate n from f) i d ≡ f (from + i)
+  tabulate-at zero from i f d h = absurd (not-suc-le-zero h)
+  tabulate-at (suc n) from zero f d h = ap f (sym (add-zero from))
+  tabulate-at (suc n) from (suc i) f d h =
+      tabulate-at n (suc from) i f d (le-of-suc-le-suc h) ∙ ap f (suc-add from i ∙ sym (add-suc from i))
+
+  tabulate-same : (n from : ℕ) (f g : ℕ → A) → ((j : ℕ) → from ≤ j → f j ≡ g j) → tabulate n from f ≡ tabulate n from g
+  tabulate-same zero from f g h = refl
+  tabulate-same (suc n) from f g h = rw (h from (le-refl from), tabulate-same n (suc from) f g (λ j k. h j (omega arith)))
+
+  -- another function that differs at one place only
+  tabulate-set : (n from i : ℕ) (f g : ℕ → A) → i < n → ((j : ℕ) → j ≢ from + i → f j ≡ g j)
+      → tabulate n from f ≡ set (tabulate n from g) i (f (from + i))
+  tabulate-set zero from i f g h k = absurd (not-suc-le-zero h)
+  tabulate-set (suc n) from zero f g h k =
+      rw (add-zero, tabulate-same n (suc from) f g (λ j w. k j (λ e. omega arith)))
+  tabulate-set (suc n) from (suc i) f g h k =
+      let e : from + suc i ≡ suc from + i = omega arith in
+      rw (k from (λ q. omega arith), e, tabulate-set n (suc from) i f g (le-of-suc-le-suc h) (λ j w. k j (λ q. w (omega arith))))
+
+-- ── The entries ───────────────────────────────────────────────────────────────────────────────────────────────────────
+
+pub entries-length : (t : List ℕ) → length (entries t) ≡ 64
+unfolding entries
+entries-length t = tabulate-length 64 0 (entryAt t)
+
+pub entries-at : (t : List ℕ) (i : ℕ) → i < 64 → getD (entries t) i unused ≡ entryAt t i
+unfolding entries
+entries-at t i h = tabulate-at 64 0 i (entryAt t) unused h ∙ rw zero-add
+
+pub entries-zero : (n : ℕ) → n ≡ 448 → entries (replicate n 0) ≡ replicate 64 unused
+unfolding entries
+entries-zero n e = rw e
+
+-- ── Seven stores ──────────────────────────────────────────────────────────────────────────────────────────────────────
+
+abbrev seven : ℕ → ℕ → ℕ → ℕ → ℕ → ℕ → ℕ → List ℕ
+seven m h c f l d n = m ∷ h ∷ c ∷ f ∷ l ∷ d ∷ n ∷ []
+
+-- seven numbers set from number a on
+abbrev pub stores : List ℕ → ℕ → ℕ → ℕ → ℕ → ℕ → ℕ → ℕ → ℕ → List ℕ
+stores t a m h c f l d n = set (set (set (set (set (set (set t a m) (a + 1) h) (a + 2) c) (a + 3) f) (a + 4) l) (a + 5) d) (a + 6) n
+
+stores-are : (t : List ℕ) (a m h c f l d n : ℕ) → stores t a m h c f l d n ≡ sets t a (seven m h c f l d n)
+stores-are t a m h c f l d n =
+    let e1 : a + 1 ≡ suc a = omega arith in
+    let e2 : a + 2 ≡ suc (suc a) = omega arith in
+    let e3 : a + 3 ≡ suc (suc (suc a)) = omega arith in
+    let e4 : a + 4 ≡ suc (suc (suc (suc a))) = omega arith in
+    let e5 : a + 5 ≡ suc (suc (suc (suc (suc a)))) = omega arith in
+    let e6 : a + 6 ≡ suc (suc (suc (suc (suc (suc a))))) = omega arith in
+    rw (e1, e2, e3, e4, e5, e6)
+
+-- number k of those that were set
+sets-here : (t vs : List ℕ) (a k : ℕ) → a + length vs ≤ length t → k < length vs → getD (sets t a vs) (a + k) 0 ≡ getD vs k 0
+sets-here t vs a k h w =
+    let z : length (take a t) ≡ a = length-take-le a t (omega arith) in
+    let rest = drop (a + length vs) t in
+    rw (sets-eq vs t a h, append-assoc)
+    (ap (λ (b : ℕ). getD (take a t ++ (vs ++ rest)) (b + k) 0) (sym z)
+    ∙ getD-append-add (take a t) (vs ++ rest) k 0
+    ∙ List·getD-append vs rest 0 k w)
+
+handed-back : (b : Bool) → not (eqb (flag b) 0) ≡ b
+handed-back true = refl
+handed-back false = refl
+
+-- the entry that was set
+stores-here : (t : List ℕ) (i m h c f l n : ℕ) (b : Bool) → 7 * i + 7 ≤ length t
+    → entryAt (stores t (7 * i) m h c f l (flag b) n) i
+    ≡ record { maker = m; holder = h; cell = c; first = f; last = l; handed = b; count = n }
+stores-here t i m h c f l n b w =
+    let vs = seven m h c f l (flag b) n in
+    let at : (k : ℕ) → k < 7 → getD (sets t (7 * i) vs) (7 * i + k) 0 ≡ getD vs k 0 = λ k z. sets-here t vs (7 * i) k w z in
+    rw (stores-are, at 0 (omega arith), at 1 (omega arith), at 2 (omega arith), at 3 (omega arith), at 4 (omega arith), at 5 (omega arith), at 6 (omega arith), handed-back b)
+
+-- the numbers of another entry
+set-away : (t : List ℕ) (j b x : ℕ) → ((k : ℕ) → k < 7 → 7 * j + k ≢ b) → entryAt (set t b x) j ≡ entryAt t j
+set-away t j b x h =
+    let at : (k : ℕ) → k < 7 → getD (set t b x) (7 * j + k) 0 ≡ getD t (7 * j + k) 0 = λ k w. getD-set-other t b (7 * j + k) x 0 (h k w) in
+    rw (at 0 (omega arith), at 1 (omega arith), at 2 (omega arith), at 3 (omega arith), at 4 (omega arith), at 5 (omega arith), at 6 (omega arith))
+
+sets-away : (vs t : List ℕ) (j b : ℕ) → ((k m : ℕ) → k < 7 → m < length vs → 7 * j + k ≢ b + m) → entryAt (sets t b vs) j ≡ entryAt t j
+sets-away [] t j b h = refl
+sets-away (v ∷ vs) t j b h =
+    sets-away vs (set t b v) j (suc b) (λ k m p q e. h k (suc m) p (omega arith) (omega arith))
+    ∙ set-away t j b v (λ k p e. h k 0 p (omega arith) (omega arith))
+
+-- the table after the seven stores
+pub stores-set : (t : List ℕ) (i m h c f l n : ℕ) (b : Bool) → i < 64 → length t ≡ 448
+    → entries (stores t (7 * i) m h c f l (flag b) n)
+    ≡ set (entries t) i (record { maker = m; holder = h; cell = c; first = f; last = l; handed = b; count = n })
+unfolding entries
+stores-set t i m h c f l n b w z =
+    let s = stores t (7 * i) m h c f l (flag b) n in
+    let k : 0 + i ≡ i = omega arith in
+    let other : (j : ℕ) → j ≢ 0 + i → entryAt s j ≡ entryAt t j = λ j e.
+    rw stores-are (sets-away (seven m h c f l (flag b) n) t j (7 * i) (λ x y p q v. e (omega arith))) in
+    tabulate-set 64 0 i (entryAt s) (entryAt t) w other ∙ rw (k, stores-here t i m h c f l n b (omega arith))

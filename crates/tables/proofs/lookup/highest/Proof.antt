@@ -1,0 +1,58 @@
+-- `tables::lookup::highest` meets its contract. Assumes nothing.
+use Prim.Native.Nat.{_-_, _≤_}
+use mathlib.Core.Path.{_≡_, refl, sym, _∙_}
+use native.Mathlib.Omega.{arith}
+use lib.ListN.{take}
+use Rattle.tables.specs.Entries.{entries}
+use Rattle.tables.specs.Table.{highestFrom, highest}
+use Rattle.tables.proofs.Loops.{left, left-end}
+use Rattle.tables.proofs.Searches.{highest-next}
+use Rattle.tables.proofs.lookup.highest.Statement.{statement}
+use Rattle.tables.proofs.lookup.highest.Tie as tie
+
+abbrev Inv-loop : tie.InvT-loop
+Inv-loop t used w best₀ i₀ best i = (i ≤ used) × (highestFrom w 0 0 (best₀ .at) (take used (entries t)) ≡ highestFrom w i (best .last) (best .at) (left used i (entries t)))
+
+abbrev μ-loop : tie.MeasureT-loop
+μ-loop t used w best₀ i₀ best i = used - i
+
+loop-holds : tie.Need-loop-holds Inv-loop μ-loop
+loop-holds c = (omega arith, refl)
+
+entry-at-requires : tie.Need-entry-at-requires Inv-loop μ-loop
+entry-at-requires c κs = record { long = c .before .before .before .pre .long; below = omega (arith, c .before .before .before .pre .within) }
+
+better-requires : tie.Need-better-requires Inv-loop μ-loop
+better-requires c κs = tt
+
+add-i : tie.Need-add-i Inv-loop μ-loop
+add-i c = omega arith
+
+loop-less : tie.Need-loop-less Inv-loop μ-loop
+loop-less c = omega arith
+
+loop-again : tie.Need-loop-again Inv-loop μ-loop
+loop-again c = let s = c .before .before .before .before .before in
+    let l = c .before .before .before .loop in (
+      omega arith,
+      l .inv .1 ∙ highest-next (s .args .t .now) (s .args .used) (l .i) (c .before .before .loop-test .taken) (s .pre .within) (s .args .w) (l .best) (c .better .result)
+          (rw (← c .before .entry-at .ensures) (c .better .ensures)),
+    )
+
+returns : tie.Need-returns Inv-loop μ-loop
+unfolding highest
+returns c = let l = c .before .loop in sym (l .inv .1 ∙ rw (left-end _ (l .i) _ (c .loop-test .left)))
+
+pub highest-spec : {M : Type 1} → statement M
+highest-spec =
+    tie.close
+    (tie.spec
+    Inv-loop
+    μ-loop
+    loop-holds
+    entry-at-requires
+    better-requires
+    add-i
+    loop-less
+    loop-again
+    returns)

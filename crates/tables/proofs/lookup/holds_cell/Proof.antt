@@ -1,0 +1,68 @@
+-- `tables::lookup::holds_cell` meets its contract. Assumes nothing.
+use Prim.Native.Nat.{_-_, _≤_}
+use mathlib.Core.Bool.{true, false}
+use mathlib.Core.Path.{_≡_, refl, sym, _∙_}
+use native.Mathlib.Omega.{arith}
+use lib.ListN.{take}
+use Rattle.book.specs.Lists.{any}
+use Rattle.tables.specs.Entries.{entries}
+use Rattle.tables.specs.Table.{isHeld, holdsCell}
+use Rattle.tables.proofs.Loops.{left, left-end}
+use Rattle.tables.proofs.Searches.{any-next}
+use Rattle.tables.proofs.lookup.holds_cell.Statement.{statement}
+use Rattle.tables.proofs.lookup.holds_cell.Tie as tie
+
+abbrev Inv-loop : tie.InvT-loop
+Inv-loop t used v c i₀ i = (i ≤ used) × (any (isHeld (v .0) (c .0)) (take used (entries t)) ≡ any (isHeld (v .0) (c .0)) (left used i (entries t)))
+
+abbrev μ-loop : tie.MeasureT-loop
+μ-loop t used v c i₀ i = used - i
+
+loop-holds : tie.Need-loop-holds Inv-loop μ-loop
+loop-holds c = (omega arith, refl)
+
+entry-at-requires : tie.Need-entry-at-requires Inv-loop μ-loop
+entry-at-requires c κs = record { long = c .before .before .before .pre .long; below = omega (arith, c .before .before .before .pre .within) }
+
+is-held-requires : tie.Need-is-held-requires Inv-loop μ-loop
+is-held-requires c κs = tt
+
+returns : tie.Need-returns Inv-loop μ-loop
+unfolding holdsCell
+returns c = let s = c .before .before .before .before .before .before in
+    let l = c .before .before .before .before .loop in
+    let e = any-next (s .args .t .now) (s .args .used) (l .i) (c .before .before .before .loop-test .taken) (s .pre .within) (isHeld (s .args .v .0) (s .args .c .0)) true
+    (rw (← c .before .before .entry-at .ensures, ← c .before .is-held .ensures) (c .if1 .taken)) in
+    sym (l .inv .1 ∙ e)
+
+add-i : tie.Need-add-i Inv-loop μ-loop
+add-i c = omega arith
+
+loop-less : tie.Need-loop-less Inv-loop μ-loop
+loop-less c = omega arith
+
+loop-again : tie.Need-loop-again Inv-loop μ-loop
+loop-again c = let s = c .before .before .before .before .before .before in
+    let l = c .before .before .before .before .loop in
+    let e = any-next (s .args .t .now) (s .args .used) (l .i) (c .before .before .before .loop-test .taken) (s .pre .within) (isHeld (s .args .v .0) (s .args .c .0)) false
+    (rw (← c .before .before .entry-at .ensures, ← c .before .is-held .ensures) (c .if1 .left)) in
+    (omega arith, l .inv .1 ∙ e)
+
+returns-2 : tie.Need-returns-2 Inv-loop μ-loop
+unfolding holdsCell
+returns-2 c = let l = c .before .loop in sym (l .inv .1 ∙ rw (left-end _ (l .i) _ (c .loop-test .left)))
+
+pub holds-cell-spec : {M : Type 1} → statement M
+holds-cell-spec =
+    tie.close
+    (tie.spec
+    Inv-loop
+    μ-loop
+    loop-holds
+    entry-at-requires
+    is-held-requires
+    returns
+    add-i
+    loop-less
+    loop-again
+    returns-2)

@@ -1,0 +1,57 @@
+-- `tables::lookup::open_count` meets its contract. Assumes nothing.
+use Prim.Native.Nat.{_*_, _+_, _-_, _≤_}
+use mathlib.Core.Path.{_≡_, _∙_}
+use native.Mathlib.Omega.{arith}
+use lib.ListN.{take}
+use Rattle.tables.specs.Entries.{entries}
+use Rattle.tables.specs.Table.{countAll, openCount}
+use Rattle.tables.proofs.Loops.{left, left-end}
+use Rattle.tables.proofs.Searches.{count-next}
+use Rattle.tables.proofs.lookup.open_count.Statement.{statement}
+use Rattle.tables.proofs.lookup.open_count.Tie as tie
+
+abbrev Inv-loop : tie.InvT-loop
+Inv-loop t used sum₀ i₀ sum i = (i ≤ used) × (sum ≤ 65535 * i) × (countAll (take used (entries t)) ≡ sum + countAll (left used i (entries t)))
+
+abbrev μ-loop : tie.MeasureT-loop
+μ-loop t used sum₀ i₀ sum i = used - i
+
+loop-holds : tie.Need-loop-holds Inv-loop μ-loop
+loop-holds c = (omega arith, omega arith, omega arith)
+
+count-at-requires : tie.Need-count-at-requires Inv-loop μ-loop
+count-at-requires c κs = record { long = c .before .before .before .pre .long; below = omega (arith, c .before .before .before .pre .within) }
+
+add-sum : tie.Need-add-sum Inv-loop μ-loop
+add-sum c = omega (arith, c .before .before .before .before .pre .within, c .count-at .ensures .small)
+
+add-i : tie.Need-add-i Inv-loop μ-loop
+add-i c = omega arith
+
+loop-less : tie.Need-loop-less Inv-loop μ-loop
+loop-less c = omega arith
+
+loop-again : tie.Need-loop-again Inv-loop μ-loop
+loop-again c = let s = c .before .before .before .before in
+    let l = c .before .before .loop in
+    (omega arith, omega (arith, c .count-at .ensures .small), l .inv .2 ∙ omega (arith, c .count-at .ensures .count, count-next (s .args .t .now) (s .args .used) (l .i) (c .before .loop-test .taken) (s .pre .within)))
+
+returns : tie.Need-returns Inv-loop μ-loop
+unfolding openCount
+returns c = let l = c .before .loop in
+    let e : countAll (left (c .before .before .before .args .used) (l .i) (entries (c .before .before .before .args .t .now))) ≡ 0 = rw (left-end _ (l .i) _ (c .loop-test .left)) in
+    (omega (arith, l .inv .2), omega (arith, c .before .before .before .pre .within))
+
+pub open-count-spec : {M : Type 1} → statement M
+open-count-spec =
+    tie.close
+    (tie.spec
+    Inv-loop
+    μ-loop
+    loop-holds
+    count-at-requires
+    add-sum
+    add-i
+    loop-less
+    loop-again
+    returns)

@@ -1,0 +1,19 @@
+-- `tables::rules::highest_of` meets its contract. Assumes nothing.
+use borrow.Author.Needs.{needs}
+use Rattle.tables.specs.Rows.{highestOf}
+use Rattle.tables.proofs.Verdicts.{reaches}
+use Rattle.tables.proofs.rules.highest_of.Statement.{statement}
+use Rattle.tables.proofs.rules.highest_of.Tie as tie
+
+highest-requires : tie.Need-highest-requires
+highest-requires c κs = search needs
+
+last-at-requires : tie.Need-last-at-requires
+last-at-requires c κs = let s = c .before .before in reaches _ _ _ _ _ (c .highest .ensures) (s .pre .range .used) (s .pre .long)
+
+returns : tie.Need-returns
+unfolding highestOf
+returns c = rw (c .last-at .ensures, c .before .highest .ensures)
+
+pub highest-of-spec : {M : Type 1} → statement M
+highest-of-spec = tie.close (tie.spec highest-requires last-at-requires returns)

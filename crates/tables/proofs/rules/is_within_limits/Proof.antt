@@ -1,0 +1,76 @@
+-- `tables::rules::is_within_limits` meets its contract. Assumes nothing.
+use borrow.Author.Needs.{needs}
+use Rattle.tables.specs.Rows.{withinLimitsBy}
+use Rattle.tables.proofs.rules.is_within_limits.Statement.{statement}
+use Rattle.tables.proofs.rules.is_within_limits.Tie as tie
+
+enum-told : tie.Need-enum-told
+enum-told c = search needs
+
+room-to-begin-requires : tie.Need-room-to-begin-requires
+room-to-begin-requires c κs = search needs
+
+enum-known-row : tie.Need-enum-known-row
+enum-known-row c = search needs
+
+room-to-change-requires : tie.Need-room-to-change-requires
+room-to-change-requires c κs = search needs
+
+enum-told-2 : tie.Need-enum-told-2
+enum-told-2 c = search needs
+
+has-room-requires : tie.Need-has-room-requires
+has-room-requires c κs = search needs
+
+enum-told-3 : tie.Need-enum-told-3
+enum-told-3 c = search needs
+
+enum-told-4 : tie.Need-enum-told-4
+enum-told-4 c = search needs
+
+enum-told-5 : tie.Need-enum-told-5
+enum-told-5 c = search needs
+
+returns : tie.Need-returns
+unfolding withinLimitsBy
+returns c = rw (c .before .enum-told .given .1, c .room-to-begin .ensures)
+
+returns-2 : tie.Need-returns-2
+unfolding withinLimitsBy
+returns-2 c = rw (c .before .before .row .given .1, c .room-to-change .ensures)
+
+returns-3 : tie.Need-returns-3
+unfolding withinLimitsBy
+returns-3 c = rw (c .before .enum-told2 .given .1, c .has-room .ensures)
+
+returns-4 : tie.Need-returns-4
+unfolding withinLimitsBy
+returns-4 c = rw (c .enum-told3 .given .1)
+
+returns-5 : tie.Need-returns-5
+unfolding withinLimitsBy
+returns-5 c = rw (c .enum-told4 .given .1)
+
+returns-6 : tie.Need-returns-6
+unfolding withinLimitsBy
+returns-6 c = rw (c .enum-told5 .given .1)
+
+pub is-within-limits-spec : {M : Type 1} → statement M
+is-within-limits-spec =
+    tie.close
+    (tie.spec
+    enum-told
+    room-to-begin-requires
+    enum-known-row
+    room-to-change-requires
+    enum-told-2
+    has-room-requires
+    enum-told-3
+    enum-told-4
+    enum-told-5
+    returns
+    returns-2
+    returns-3
+    returns-4
+    returns-5
+    returns-6)

@@ -1,0 +1,17 @@
+-- `tables::rules::room_to_begin` meets its contract. Assumes nothing.
+use borrow.Author.Tests.{lt-ltb, le-ltb}
+use borrow.Author.Needs.{needs}
+use Rattle.tables.proofs.rules.room_to_begin.Statement.{statement}
+use Rattle.tables.proofs.rules.room_to_begin.Tie as tie
+
+has-room-requires : tie.Need-has-room-requires
+has-room-requires c κs = search needs
+
+returns : tie.Need-returns
+returns c = rw (lt-ltb _ _ (c .before .if1 .taken), c .has-room .ensures)
+
+returns-2 : tie.Need-returns-2
+returns-2 c = rw (le-ltb _ _ (c .if1 .left))
+
+pub room-to-begin-spec : {M : Type 1} → statement M
+room-to-begin-spec = tie.close (tie.spec has-room-requires returns returns-2)

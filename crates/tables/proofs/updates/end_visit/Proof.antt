@@ -1,0 +1,21 @@
+-- `tables::updates::end_visit` meets its contract. Assumes nothing.
+use borrow.Author.Needs.{needs}
+use Rattle.tables.specs.Table.{scopesEnded}
+use Rattle.tables.proofs.updates.end_visit.Statement.{statement}
+use Rattle.tables.proofs.updates.end_visit.Tie as tie
+
+close-ranks-requires : tie.Need-close-ranks-requires
+close-ranks-requires c κs = search needs
+
+clear-from-requires : tie.Need-clear-from-requires
+clear-from-requires c κs = search needs
+
+same-length : tie.Need-same-length
+same-length c = search needs
+
+returns : tie.Need-returns
+unfolding scopesEnded
+returns c = let e = c .before .before .before .before .before .before .close-ranks .ensures in rw (c .before .before .clear-from .ensures, e .kept, e .count)
+
+pub end-visit-spec : {M : Type 1} → statement M
+end-visit-spec = tie.close (tie.spec close-ranks-requires clear-from-requires same-length returns)

@@ -1,0 +1,42 @@
+-- `tables::updates::move_entry` meets its contract. Assumes nothing.
+use native.Mathlib.Numerals.{add-one}
+use borrow.Author.Tests.{eq-eqb, ne-eqb}
+use borrow.Author.Needs.{needs}
+use Rattle.tables.specs.Table.{movedAt}
+use Rattle.tables.proofs.updates.move_entry.Statement.{statement}
+use Rattle.tables.proofs.updates.move_entry.Tie as tie
+
+entry-at-requires : tie.Need-entry-at-requires
+entry-at-requires c κs = search needs
+
+same-length : tie.Need-same-length
+same-length c = search needs
+
+returns : tie.Need-returns
+unfolding movedAt
+returns c = rw (← c .before .before .before .entry-at .ensures, eq-eqb _ _ (c .if1 .taken))
+
+put-entry-requires : tie.Need-put-entry-requires
+put-entry-requires c κs = search needs
+
+add-result : tie.Need-add-result
+add-result c = search needs
+
+same-length-2 : tie.Need-same-length-2
+same-length-2 c = search needs
+
+returns-2 : tie.Need-returns-2
+unfolding movedAt
+returns-2 c = rw (← c .before .before .before .before .before .before .before .entry-at .ensures, ne-eqb _ _ (c .before .before .before .before .if1 .left), c .before .before .put-entry .ensures, add-one)
+
+pub move-entry-spec : {M : Type 1} → statement M
+move-entry-spec =
+    tie.close
+    (tie.spec
+    entry-at-requires
+    same-length
+    returns
+    put-entry-requires
+    add-result
+    same-length-2
+    returns-2)

@@ -1,0 +1,63 @@
+-- `tables::visits::vacate` meets its contract. Assumes nothing.
+use Prim.Native.Nat.{_-_, _≤_, _<_}
+use mathlib.Core.Path.{_≡_, refl, sym, _∙_}
+use native.Mathlib.Omega.{arith}
+use lib.Seq.{length-take-le}
+use lib.ListN.{length-set, length-map, length, take}
+use Rattle.tables.specs.Visits.{vacated, vacant}
+use Rattle.tables.proofs.Loops.{filled, filled-next, filled-end}
+use Rattle.tables.proofs.visits.vacate.Statement.{statement}
+use Rattle.tables.proofs.visits.vacate.Tie as tie
+
+abbrev Inv-loop : tie.InvT-loop
+Inv-loop t used active₀ count none i₀ active i = (count ≤ i) × (i ≤ 16) × (length active ≡ 16) × (filled 16 vacant i active ≡ filled 16 vacant count active₀)
+
+abbrev μ-loop : tie.MeasureT-loop
+μ-loop t used active₀ count none i₀ active i = 16 - i
+
+-- the array has 16 places
+long : (c : tie.Start Inv-loop μ-loop) → length (c .args .t .active) ≡ 16
+long c = sym (length-map (c .args .t .active) _) ∙ c .good .0 .1 .1 .1 .0 .1 .0 .1
+
+loop-holds : tie.Need-loop-holds Inv-loop μ-loop
+loop-holds c = (omega arith, c .before .pre, long (c .before), refl)
+
+mul-active : tie.Need-mul-active Inv-loop μ-loop
+mul-active c = omega arith
+
+array-set-from-active : tie.Need-array-set-from-active Inv-loop μ-loop
+array-set-from-active c = omega arith
+
+add-i : tie.Need-add-i Inv-loop μ-loop
+add-i c = omega arith
+
+loop-less : tie.Need-loop-less Inv-loop μ-loop
+loop-less c = omega arith
+
+loop-again : tie.Need-loop-again Inv-loop μ-loop
+loop-again c = let l = c .before .loop in
+    let h : l .i < 16 = c .loop-test .taken in
+    (omega arith, omega arith, simp length-set (l .inv .2), filled-next 16 (l .i) (l .active) vacant h (omega arith) ∙ l .inv .3)
+
+returns : tie.Need-returns Inv-loop μ-loop
+unfolding vacated
+returns c = let s = c .before .before .before in
+    let l = c .before .loop in
+    let e : l .active ≡ filled 16 vacant (s .args .t .count) (s .args .t .active)
+    = sym (filled-end 16 (l .i) (l .active) vacant (omega arith) (l .inv .2) (l .inv .1)) ∙ l .inv .3 in
+    let k : length (take (s .args .t .count) (s .args .t .active)) ≡ s .args .t .count = length-take-le (s .args .t .count) (s .args .t .active) (omega (arith, long s, s .pre)) in
+    rw (e, k)
+
+pub vacate-spec : {M : Type 1} → statement M
+vacate-spec =
+    tie.close
+    (tie.spec
+    Inv-loop
+    μ-loop
+    loop-holds
+    mul-active
+    array-set-from-active
+    add-i
+    loop-less
+    loop-again
+    returns)

@@ -1,0 +1,5 @@
+pub mod Visits
+pub mod Entries
+pub mod Table
+pub mod Rows
+pub mod Meaning

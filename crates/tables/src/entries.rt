@@ -1,0 +1,67 @@
+// The flat scope table, entry by entry: seven numbers each, in the order of the struct's fields.
+ghost use mathlib.Core.Path.{_≡_};
+ghost use Prim.Native.Nat.{_≤_, _<_};
+ghost use lib.ListN.{length, getD, set, replicate};
+ghost use Rattle.book.specs.Scopes.{unused};
+ghost use Rattle.tables.specs.Entries.{flatLength, Inside, scopeIn, flag, entries as entriesOf, Counted};
+use crate::Entry;
+
+// Entry i. Whatever is not 0 counts as handed.
+pub fn entry_at(t: &[u16], i: usize) -> Entry
+    requires { ⌜ Inside (length (now t)) i ⌝ }
+    ensures { λ r. ⌜ scopeIn r ≡ getD (entriesOf (now (t .entry))) i unused ⌝ }
+{
+    let at = 7 * i;
+    Entry {
+        maker: t[at],
+        holder: t[at + 1],
+        cell: t[at + 2],
+        first: t[at + 3],
+        last: t[at + 4],
+        handed: t[at + 5] != 0,
+        count: t[at + 6],
+    }
+}
+
+// The count of entry i, to be summed.
+pub fn count_at(t: &[u16], i: usize) -> usize
+    requires { ⌜ Inside (length (now t)) i ⌝ }
+    ensures { λ r. ⌜ Counted (entriesOf (now (t .entry))) i r ⌝ }
+{
+    let at = 7 * i;
+    t[at + 6] as usize
+}
+
+fn flag_of(b: bool) -> u16
+    ensures { λ r. ⌜ r ≡ flag b ⌝ }
+{
+    if b { 1 } else { 0 }
+}
+
+// Entry i is set.
+pub fn put_entry(t: &mut [u16], i: usize, e: Entry)
+    requires { ⌜ Inside (length (now t)) i ⌝ }
+    ensures { λ _. ⌜ entriesOf (now (t .exit)) ≡ set (entriesOf (now (t .entry))) i (scopeIn e) ⌝ }
+{
+    let handed = flag_of(e.handed);
+    let at = 7 * i;
+    t[at] = e.maker;
+    t[at + 1] = e.holder;
+    t[at + 2] = e.cell;
+    t[at + 3] = e.first;
+    t[at + 4] = e.last;
+    t[at + 5] = handed;
+    t[at + 6] = e.count;
+}
+
+// No entry is in use: all numbers 0.
+pub fn clear(t: &mut [u16])
+    requires { ⌜ length (now t) ≡ flatLength ⌝ }
+    ensures { λ _. ⌜ (now (t .exit) ≡ replicate (length (now (t .entry))) 0) × (entriesOf (now (t .exit)) ≡ replicate 64 unused) ⌝ }
+{
+    let mut i: usize = 0;
+    while i < t.len() {
+        t[i] = 0;
+        i += 1;
+    }
+}

@@ -1,0 +1,112 @@
+// What is found in the scope table: the scope that may grow, a cell that a visit holds, the highest open change, the number of open changes.
+ghost use mathlib.Core.Path.{_≡_};
+ghost use Prim.Native.Nat.{_<_};
+ghost use lib.ListN.{length, getD};
+ghost use Rattle.tables.specs.Entries.{Sized, scopeIn, entries as entriesOf};
+ghost use Rattle.tables.specs.Table.{find, grows, holdsCell, highest as highestIn, lastAt, openCount, betterOf, Reaches};
+use crate::Candidate;
+use crate::Entry;
+use crate::Found;
+use crate::Whom;
+use crate::entries::count_at;
+use crate::entries::entry_at;
+use crate::scopes::covers;
+use crate::scopes::is_held;
+use crate::scopes::may_grow;
+use rows::Cell;
+use rows::Lsn;
+use rows::Visit;
+
+// The first entry in use that a change of the cell by the visit grows.
+pub fn find_growing(t: &[u16], used: usize, v: Visit, c: Cell) -> Found
+    requires { ⌜ Sized (length (now t)) used ⌝ }
+    ensures { λ r. ⌜ r ≡ find (grows (v .0) (c .0)) used (entriesOf (now (t .entry))) ⌝ }
+{
+    let mut i: usize = 0;
+    while i < used {
+        let e = entry_at(t, i);
+        if may_grow(e, v, c) {
+            return Found::At(i);
+        }
+        i += 1;
+    }
+    Found::Nothing
+}
+
+// The visit holds changes of the cell.
+pub fn holds_cell(t: &[u16], used: usize, v: Visit, c: Cell) -> bool
+    requires { ⌜ Sized (length (now t)) used ⌝ }
+    ensures { λ r. ⌜ r ≡ holdsCell used (v .0) (c .0) (entriesOf (now (t .entry))) ⌝ }
+{
+    let mut i: usize = 0;
+    while i < used {
+        let e = entry_at(t, i);
+        if is_held(e, v, c) {
+            return true;
+        }
+        i += 1;
+    }
+    false
+}
+
+// The entry instead of the best one so far, where it has a higher open change of these visits.
+fn better(best: Candidate, i: usize, e: Entry, w: Whom) -> Candidate
+    ensures { λ r. ⌜ r ≡ betterOf w i best (scopeIn e) ⌝ }
+{
+    if covers(w, e.holder) {
+        if best.last < e.last {
+            return Candidate {
+                last: e.last,
+                at: Found::At(i),
+            };
+        }
+    }
+    best
+}
+
+// The entry with the highest open change of these visits.
+pub fn highest(t: &[u16], used: usize, w: Whom) -> Found
+    requires { ⌜ Sized (length (now t)) used ⌝ }
+    ensures { λ r. ⌜ r ≡ highestIn w used (entriesOf (now (t .entry))) ⌝ }
+{
+    let mut best = Candidate {
+        last: 0,
+        at: Found::Nothing,
+    };
+    let mut i: usize = 0;
+    while i < used {
+        let e = entry_at(t, i);
+        best = better(best, i, e, w);
+        i += 1;
+    }
+    let at = best.at;
+    at
+}
+
+// The highest open change of the entry found, 0 for none.
+pub fn last_at(t: &[u16], found: Found) -> Lsn
+    requires { ⌜ Reaches (length (now t)) found ⌝ }
+    ensures { λ r. ⌜ r .0 ≡ lastAt found (entriesOf (now (t .entry))) ⌝ }
+{
+    match found {
+        Found::At(i) => {
+            let e = entry_at(t, i);
+            Lsn(e.last)
+        }
+        Found::Nothing => Lsn(0),
+    }
+}
+
+// The open changes: the sum of the counts.
+pub fn open_count(t: &[u16], used: usize) -> usize
+    requires { ⌜ Sized (length (now t)) used ⌝ }
+    ensures { λ r. ⌜ (r ≡ openCount used (entriesOf (now (t .entry)))) × (r < 4194305) ⌝ }
+{
+    let mut sum: usize = 0;
+    let mut i: usize = 0;
+    while i < used {
+        sum += count_at(t, i);
+        i += 1;
+    }
+    sum
+}

@@ -1,0 +1,228 @@
+// The row rules by the tables: what a row needs of visits, cells, holders and undo rows, and of the sixteen visits, the scopes and the free rows.
+ghost use mathlib.Core.Path.{_≡_};
+ghost use mathlib.Core.Bool.{not, _&&_};
+ghost use Prim.Native.Nat.{suc, _-_, _≤_, _<_};
+ghost use lib.ListN.{length};
+ghost use lib.Dec.{eqb};
+ghost use Rattle.book.specs.Lists.{eqZ};
+ghost use Rattle.rows.specs.Meaning.{meant};
+ghost use Rattle.tables.specs.Visits.{InRange, isListed, isBearing};
+ghost use Rattle.tables.specs.Rows.{Ready, index, reserveBy, roomBy, highestOf, growsBy, isChange, mayAct, mayHandOver, mayUndo, mayAbort, lawfulBy, roomToBegin, roomToChange, withinLimitsBy, judgeBy};
+use crate::Found;
+use crate::Tables;
+use crate::Verdict;
+use crate::Whom;
+use crate::lookup::find_growing;
+use crate::lookup::highest;
+use crate::lookup::holds_cell;
+use crate::lookup::last_at;
+use crate::lookup::open_count;
+use crate::visits::is_bearing;
+use crate::visits::is_listed;
+use rows::Cell;
+use rows::Lsn;
+use rows::Row;
+use rows::Visit;
+
+// The rows that must stay free: an end for each active visit, and an undo for each open change.
+pub fn reserve(t: Tables, scopes: &[u16]) -> usize
+    requires { ⌜ Ready t (length (now scopes)) ⌝ }
+    ensures { λ r. ⌜ (r ≡ reserveBy (index t (now (scopes .entry)))) × (r < 4194321) ⌝ }
+{
+    t.count + open_count(scopes, t.used)
+}
+
+fn free_rows(rows: usize) -> usize
+    ensures { λ r. ⌜ r ≡ 4096 - rows ⌝ }
+{
+    if rows < 4096 { 4096 - rows } else { 0 }
+}
+
+// After so many rows, n more are free besides the reserve.
+pub fn has_room(t: Tables, scopes: &[u16], rows: usize, n: usize) -> bool
+    requires { ⌜ Ready t (length (now scopes)) ⌝ }
+    requires { ⌜ n < 65536 ⌝ }
+    ensures { λ r. ⌜ r ≡ roomBy (index t (now (scopes .entry))) rows n ⌝ }
+{
+    let needed = reserve(t, scopes) + n;
+    needed <= free_rows(rows)
+}
+
+// The highest open change that the visit holds, 0 for none.
+pub fn highest_of(t: Tables, scopes: &[u16], v: Visit) -> Lsn
+    requires { ⌜ Ready t (length (now scopes)) ⌝ }
+    ensures { λ r. ⌜ r .0 ≡ highestOf (index t (now (scopes .entry))) (v .0) ⌝ }
+{
+    let found = highest(scopes, t.used, Whom::One(v));
+    last_at(scopes, found)
+}
+
+// A change of the cell by the visit would grow a scope.
+pub fn grows_scope(t: Tables, scopes: &[u16], v: Visit, c: Cell) -> bool
+    requires { ⌜ Ready t (length (now scopes)) ⌝ }
+    ensures { λ r. ⌜ r ≡ growsBy (index t (now (scopes .entry))) (v .0) (c .0) ⌝ }
+{
+    let found = find_growing(scopes, t.used, v, c);
+    match found {
+        Found::At(_) => true,
+        Found::Nothing => false,
+    }
+}
+
+// The visit is active, and no undo row bears it.
+pub fn may_act(t: Tables, v: Visit) -> bool
+    requires { ⌜ InRange t ⌝ }
+    ensures { λ r. ⌜ r ≡ mayAct t (v .0) ⌝ }
+{
+    if is_listed(t, v) {
+        !is_bearing(t, v)
+    } else {
+        false
+    }
+}
+
+pub fn may_hand_over(t: Tables, scopes: &[u16], g: Visit, r: Visit, c: Cell) -> bool
+    requires { ⌜ Ready t (length (now scopes)) ⌝ }
+    ensures { λ b. ⌜ b ≡ mayHandOver (index t (now (scopes .entry))) (g .0) (r .0) (c .0) ⌝ }
+{
+    if g.0 == r.0 {
+        return false;
+    }
+    if !is_listed(t, g) {
+        return false;
+    }
+    if !is_listed(t, r) {
+        return false;
+    }
+    if is_bearing(t, g) {
+        return false;
+    }
+    if is_bearing(t, r) {
+        return false;
+    }
+    holds_cell(scopes, t.used, g, c)
+}
+
+// Same cell and same amount.
+fn is_same(k: Cell, z: i16, c: Cell, a: i16) -> bool
+    ensures { λ r. ⌜ r ≡ (eqb (k .0) (c .0) && eqZ z a) ⌝ }
+{
+    if k.0 == c.0 { z == a } else { false }
+}
+
+// The row is a change with this cell and amount.
+fn is_change(row: Row, c: Cell, a: i16) -> bool
+    ensures { λ r. ⌜ r ≡ isChange (meant row) (c .0) a ⌝ }
+{
+    match row {
+        Row::Begin(_) => false,
+        Row::Change(_, k, z) => is_same(k, z, c, a),
+        Row::HandOver(_, _, _) => false,
+        Row::Undo(_, _, _, _) => false,
+        Row::Commit(_) => false,
+        Row::Abort(_) => false,
+    }
+}
+
+// The row undone is the holder's highest open change, and `named`, the row with that number, has the cell and the amount.
+pub fn may_undo(t: Tables, scopes: &[u16], named: Row, h: Visit, c: Cell, n: Lsn, a: i16) -> bool
+    requires { ⌜ Ready t (length (now scopes)) ⌝ }
+    ensures { λ r. ⌜ r ≡ mayUndo (index t (now (scopes .entry))) (meant named) (h .0) (c .0) (n .0) a ⌝ }
+{
+    if n.0 < 1 {
+        return false;
+    }
+    let top = highest_of(t, scopes, h);
+    if top.0 != n.0 {
+        return false;
+    }
+    is_change(named, c, a)
+}
+
+// The visit is active, and all its changes are undone.
+pub fn may_abort(t: Tables, scopes: &[u16], v: Visit) -> bool
+    requires { ⌜ Ready t (length (now scopes)) ⌝ }
+    ensures { λ r. ⌜ r ≡ mayAbort (index t (now (scopes .entry))) (v .0) ⌝ }
+{
+    if !is_listed(t, v) {
+        return false;
+    }
+    let top = highest_of(t, scopes, v);
+    top.0 == 0
+}
+
+// The visit's number is the next one.
+pub fn is_next(t: Tables, v: Visit) -> bool
+    ensures { λ r. ⌜ r ≡ eqb (v .0) (suc (t .begun)) ⌝ }
+{
+    v.0 as u32 == t.begun as u32 + 1
+}
+
+// What a row needs of visits, cells, holders and undo rows. `named` is the row that an undo row names.
+pub fn is_lawful(t: Tables, scopes: &[u16], row: Row, named: Row) -> bool
+    requires { ⌜ Ready t (length (now scopes)) ⌝ }
+    ensures { λ r. ⌜ r ≡ lawfulBy (index t (now (scopes .entry))) (meant named) (meant row) ⌝ }
+{
+    match row {
+        Row::Begin(v) => is_next(t, v),
+        Row::Change(v, _, _) => may_act(t, v),
+        Row::HandOver(g, r, c) => may_hand_over(t, scopes, g, r, c),
+        Row::Undo(h, c, n, a) => may_undo(t, scopes, named, h, c, n, a),
+        Row::Commit(v) => may_act(t, v),
+        Row::Abort(v) => may_abort(t, scopes, v),
+    }
+}
+
+fn room_to_begin(t: Tables, scopes: &[u16], rows: usize) -> bool
+    requires { ⌜ Ready t (length (now scopes)) ⌝ }
+    ensures { λ r. ⌜ r ≡ roomToBegin (index t (now (scopes .entry))) rows ⌝ }
+{
+    if t.count < 16 {
+        has_room(t, scopes, rows, 2)
+    } else {
+        false
+    }
+}
+
+fn room_to_change(t: Tables, scopes: &[u16], rows: usize, v: Visit, c: Cell) -> bool
+    requires { ⌜ Ready t (length (now scopes)) ⌝ }
+    ensures { λ r. ⌜ r ≡ roomToChange (index t (now (scopes .entry))) rows (v .0) (c .0) ⌝ }
+{
+    if grows_scope(t, scopes, v, c) {
+        return has_room(t, scopes, rows, 2);
+    }
+    if t.used < 64 {
+        has_room(t, scopes, rows, 2)
+    } else {
+        false
+    }
+}
+
+// What a row needs of the sixteen visits, the scopes and the free rows, after so many rows.
+pub fn is_within_limits(t: Tables, scopes: &[u16], rows: usize, row: Row) -> bool
+    requires { ⌜ Ready t (length (now scopes)) ⌝ }
+    ensures { λ r. ⌜ r ≡ withinLimitsBy (index t (now (scopes .entry))) rows (meant row) ⌝ }
+{
+    match row {
+        Row::Begin(_) => room_to_begin(t, scopes, rows),
+        Row::Change(v, c, _) => room_to_change(t, scopes, rows, v, c),
+        Row::HandOver(_, _, _) => has_room(t, scopes, rows, 1),
+        Row::Undo(_, _, _, _) => true,
+        Row::Commit(_) => true,
+        Row::Abort(_) => true,
+    }
+}
+
+// A row judged after so many rows.
+pub fn judge(t: Tables, scopes: &[u16], rows: usize, row: Row, named: Row) -> Verdict
+    requires { ⌜ Ready t (length (now scopes)) ⌝ }
+    ensures { λ r. ⌜ r ≡ judgeBy (index t (now (scopes .entry))) rows (meant named) (meant row) ⌝ }
+{
+    if !is_lawful(t, scopes, row, named) {
+        return Verdict::Unlawful;
+    }
+    if !is_within_limits(t, scopes, rows, row) {
+        return Verdict::OverLimit;
+    }
+    Verdict::Allowed
+}
