@@ -1,0 +1,54 @@
+-- Parts of a list that are replaced: a copy of the same length, and a turn of the loop that moves the tail's rows to the front. Assumes nothing.
+use mathlib.Core.Path.{_≡_, ap, ap₂, sym, _∙_}
+use mathlib.Core.List.{List, _++_, append-nil}
+use Prim.Native.Nat.{ℕ, suc, _+_, _-_, _≤_, _<_}
+use native.Mathlib.Omega.{arith}
+use native.Mathlib.Numerals.{add-one}
+use lib.ListN.{length, take, drop, getD, set, replicate, length-append, length-drop, drop-of-length-le}
+use lib.Seq.{take-length, take-all, length-take-le, take-suc, drop-cons, getD-drop, getD-append-add, set-at, take-at, drop-at, append-snoc}
+
+-- a copy over as many bytes leaves those of the source
+pub copied : (s d : List ℕ) → length d ≡ length s → take (length s) s ++ drop (length s) d ≡ s
+copied s d h = ap₂ (λ (x y : List ℕ). x ++ y) (take-length s) (drop-of-length-le d {i = length s} (omega arith)) ∙ append-nil s
+
+-- the tail after i turns: i bytes are moved to the front by g
+abbrev pub moved : ℕ → ℕ → List ℕ → List ℕ
+moved g i t = take i (drop g t) ++ drop i t
+
+front : (g i : ℕ) (t : List ℕ) → i + g ≤ length t → length (take i (drop g t)) ≡ i
+front g i t h = length-take-le i (drop g t) (simp length-drop (omega arith))
+
+pub moved-long : (g i : ℕ) (t : List ℕ) → i + g ≤ length t → length (moved g i t) ≡ length t
+moved-long g i t h =
+    let a = length-append (take i (drop g t)) (drop i t) in let b = front g i t h in let c = length-drop i t in omega arith
+
+-- the byte that the next turn reads
+pub moved-read : (g i : ℕ) (t : List ℕ) → i + g < length t → getD (moved g i t) (i + g) 0 ≡ getD t (i + g) 0
+moved-read g i t h =
+    let k = front g i t (omega arith) in
+    ap (λ (n : ℕ). getD (moved g i t) (n + g) 0) (sym k) ∙ getD-append-add (take i (drop g t)) (drop i t) g 0 ∙ getD-drop i t g 0
+
+pub moved-more : (g i : ℕ) (t : List ℕ) → i + g < length t → set (moved g i t) i (getD (moved g i t) (i + g) 0) ≡ moved g (i + 1) t
+moved-more g i t h =
+    let k = front g i t (omega arith) in
+    let x = getD t (i + g) 0 in
+    let s : length (drop g t) ≡ length t - g = length-drop g t in
+    let c : i + g ≡ g + i = omega arith in
+    let y : getD (drop g t) i 0 ≡ x = getD-drop g t i 0 ∙ ap (λ (n : ℕ). getD t n 0) (sym c) in
+    rw (moved-read g i t h, drop-cons t i 0 (omega arith), add-one i, take-suc (drop g t) i 0 (omega arith), y)
+    (set-at (take i (drop g t)) (getD t i 0) (drop (suc i) t) x i k ∙ sym (append-snoc (take i (drop g t)) x (drop (suc i) t)))
+
+-- after the last turn, with zeros behind
+pub moved-all : (g k : ℕ) (t : List ℕ) → k + g ≡ length t
+    → take k (moved g k t) ++ (replicate g 0 ++ drop g (drop k (moved g k t))) ≡ drop g t ++ replicate g 0
+moved-all g k t h =
+    let f = front g k t (omega arith) in
+    let d : length (drop g t) ≡ length t - g = length-drop g t in
+    let e : length (drop k t) ≡ length t - k = length-drop k t in
+    rw (
+      take-at (take k (drop g t)) (drop k t) k f,
+      drop-at (take k (drop g t)) (drop k t) k f,
+      take-all k (drop g t) (omega arith),
+      drop-of-length-le (drop k t) {i = g} (omega arith),
+      append-nil {A = ℕ} (replicate g 0),
+    )

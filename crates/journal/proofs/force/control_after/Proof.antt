@@ -1,0 +1,15 @@
+use Rattle.journal.proofs.force.control_after.Statement.{statement}
+use Rattle.journal.proofs.force.control_after.Tie as tie
+use Rattle.journal.proofs.force.control_after.Reads as reads
+use Rattle.journal.proofs.force.control_after.Lts as lts
+
+-- src/force.rt:55:1
+returns : tie.Need-returns
+returns c = rw (c .if1 .taken)
+
+-- src/force.rt:55:1
+returns-2 : tie.Need-returns-2
+returns-2 c = rw (c .if1 .left)
+
+pub control-after-spec : {M : Type 1} → statement M
+control-after-spec = tie.close (tie.spec returns returns-2)

@@ -1,0 +1,4 @@
+pub mod Writes
+pub mod Force
+pub mod Journal
+pub mod Meaning

@@ -1,0 +1,18 @@
+// The journal: rows go through the tail to the stored log, and pages to the stored charts, one stored write each under the fuse (document 01, "Power" and "Calls").
+// `proofs/Meaning` says that these functions do to the bytes what the book's steps do to its rows.
+use state::ram::Fuse;
+use state::ram::Phase;
+
+pub mod force;
+pub mod fuse;
+pub mod pages;
+pub mod tail;
+pub mod writes;
+
+// Where the journal stands. A write beyond the fuse closes it: then nothing waits, the fuse is gone, and the rows that landed stay counted.
+pub struct Control {
+    pub phase: Phase,
+    pub fuse: Fuse,
+    pub stored: usize,
+    pub waiting: usize,
+}
