@@ -37,9 +37,7 @@ pub mod Pages
 pub mod Flush
 pub mod AnyCharts
 pub mod OpenBytes
--- cases and examples
+-- cases
 pub mod OneVisit
 pub mod Cases
 pub mod Example
-pub mod LimitExamples
-pub mod OpeningExamples

@@ -1,0 +1,3 @@
+-- Checked examples, by computing.
+pub mod Limits
+pub mod Openings
