@@ -66,12 +66,12 @@ last-mark p zero (r ∷ rs) e = rw e
 last-mark p (suc m) (r ∷ rs) e = rw (last-mark p m rs e, le-leb 1 (suc m) (omega arith))
 
 -- what the check says of a page
-record Passed (rs : List Row) (p : ℕ) (bs : List ℕ) : Type 0 where
-  marked : lastOn p (take (pageOf bs .mark) rs) ≡ pageOf bs .mark
-  zeros : number 2 bs 2 ≡ 0
-  small : (j : ℕ) → j < 7 → natAbs (pageOf bs .cell j) ≤ 200000000
+pub record Passed (rs : List Row) (p : ℕ) (bs : List ℕ) : Type 0 where
+  pub marked : lastOn p (take (pageOf bs .mark) rs) ≡ pageOf bs .mark
+  pub zeros : number 2 bs 2 ≡ 0
+  pub small : (j : ℕ) → j < 7 → natAbs (pageOf bs .cell j) ≤ 200000000
 
-passed : (rs : List Row) (p : ℕ) (bs : List ℕ) → isPage rs p bs ≡ true → Passed rs p bs
+pub passed : (rs : List Row) (p : ℕ) (bs : List ℕ) → isPage rs p bs ≡ true → Passed rs p bs
 unfolding isPage
 passed rs p bs e =
     let cells : eqb (firstFailing 7 0 (λ i. within 200000000 (pageOf bs .cell i))) 7 ≡ true = search (and-l, and-r) in
@@ -98,7 +98,7 @@ startOf charts rs c p j = pageOf (pageAt charts p) .cell j -ℤ sumOf c (take (m
 unfoldable pub baseOf : List ℕ → List Row → ℕ → ℤ
 baseOf charts rs c = cond (ltb c 224) (startOf charts rs c (pageOfCell c) (c % 7)) (pos 0)
 
-part-bytes : (bs : List ℕ) → AreBytes bs → (m n : ℕ) → AreBytes (take n (drop m bs))
+pub part-bytes : (bs : List ℕ) → AreBytes bs → (m n : ℕ) → AreBytes (take n (drop m bs))
 part-bytes bs byte m n i = go (ltb i n) refl
   where
     go : (t : Bool) → ltb i n ≡ t → getD (take n (drop m bs)) i 0 < 256

@@ -104,6 +104,15 @@ module _ (size : ℕ) (G : ℕ → List ℕ) (long : (q : ℕ) → length (G q) 
 
 -- ── The first number that fails a test ────────────────────────────────────────────────────────────────────────────────
 
+-- it is at most the end
+pub first-within : (n from : ℕ) (P : ℕ → Bool) → firstFailing n from P ≤ from + n
+first-within zero from P = omega arith
+first-within (suc n) from P = go (P from) (first-within n (suc from) P)
+  where
+    go : (t : Bool) → firstFailing n (suc from) P ≤ suc from + n → cond t (firstFailing n (suc from) P) from ≤ from + suc n
+    go true h = omega arith
+    go false h = omega arith
+
 -- none does
 pub first-none : (n from : ℕ) (P : ℕ → Bool) → ((i : ℕ) → from ≤ i → i < from + n → P i ≡ true) → firstFailing n from P ≡ from + n
 first-none zero from P f = sym (add-zero from)

@@ -25,6 +25,7 @@ pub mod Adds
 pub mod Sound
 pub mod Openings
 pub mod Claims
+pub mod Reopened
 -- bytes
 pub mod Numbers
 pub mod Blocks
@@ -37,6 +38,7 @@ pub mod Pages
 pub mod Flush
 pub mod AnyCharts
 pub mod OpenBytes
+pub mod ReopenedBytes
 -- cases
 pub mod OneVisit
 pub mod Cases

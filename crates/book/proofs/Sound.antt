@@ -56,7 +56,7 @@ sound-extends b b′ rs s p f tail = record {
 
 -- ── The tail is not too long ──────────────────────────────────────────────────────────────────────────────────────────
 
-tail-add : (b : Book) (r : Row) → length (b .waiting) ≤ tailLimit → length (add b r .waiting) ≤ tailLimit
+pub tail-add : (b : Book) (r : Row) → length (b .waiting) ≤ tailLimit → length (add b r .waiting) ≤ tailLimit
 unfolding add
 tail-add b r h = go (leb tailLimit (length (b .waiting))) refl
   where
@@ -71,7 +71,7 @@ tail-add b r h = go (leb tailLimit (length (b .waiting))) refl
     go true e = step (force b) (rw (force-empties b) (omega arith))
     go false e = step b (leb-false tailLimit (length (b .waiting)) e)
 
-tail-all : (b : Book) (rs : List Row) → length (b .waiting) ≤ tailLimit → length (addAll b rs .waiting) ≤ tailLimit
+pub tail-all : (b : Book) (rs : List Row) → length (b .waiting) ≤ tailLimit → length (addAll b rs .waiting) ≤ tailLimit
 tail-all b [] h = h
 tail-all b (r ∷ rs) h = tail-all (add b r) rs (tail-add b r h)
 
@@ -87,7 +87,7 @@ tail-store b = go (b .stored) (b .waiting) (b .fuse) (b .isOpen)
     go s [] f o = omega arith
     go s (r ∷ w) f o = let k = tail-land f s (s ++ (r ∷ [])) w in omega arith
 
-tail-times : (n : ℕ) (b : Book) → length (times n storeRow b .waiting) ≤ length (b .waiting)
+pub tail-times : (n : ℕ) (b : Book) → length (times n storeRow b .waiting) ≤ length (b .waiting)
 tail-times zero b = omega arith
 tail-times (suc n) b = let k = tail-store b in let m = tail-times n (storeRow b) in omega arith
 

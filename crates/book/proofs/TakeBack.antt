@@ -51,7 +51,7 @@ abort-allowed l v i a e =
     and-i _ _ (and-i _ _ visit (and-i _ _ a (rw (any-none (λ x. just v (x .holder)) (openChanges l) e)))) refl
 
 -- the open changes after it: the same, since none was the visit's
-abort-open : (l : Ledger) (v : ℕ) → openHeld (just v) l ≡ [] → openChanges (after l (Row.abort v)) ≡ openChanges l
+pub abort-open : (l : Ledger) (v : ℕ) → openHeld (just v) l ≡ [] → openChanges (after l (Row.abort v)) ≡ openChanges l
 unfolding after
 abort-open l v e = keep-same _ _ (l .changes) (λ x m. go x m (eqb (x .holder) v) refl)
   where

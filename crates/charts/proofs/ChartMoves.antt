@@ -26,14 +26,14 @@ movedPages f e n p = record { mark = cond (touches p e) n (f p .mark); cell = λ
 
 module _ (f : ℕ → Page) (c : ℕ) (z : ℤ) (n : ℕ) where
   -- a page other than the cell's
-  other-page : (p : ℕ) → (c / 7 ≡ p → ⊥) → SamePage (f p) (movedPages f (moves c z) n p)
+  pub other-page : (p : ℕ) → (c / 7 ≡ p → ⊥) → SamePage (f p) (movedPages f (moves c z) n p)
   other-page p o = record {
     mark = rw (ne-eqb (c / 7) p o);
     cells = λ j h. rw (ne-eqb c (7 * p + j) (λ e. o (omega arith))) (sym (+ℤ-idr (f p .cell j)));
   }
 
   -- the cell's page
-  own-page : (p : ℕ) → p ≡ c / 7 → SamePage (movedPage (f (c / 7)) (c % 7) z n) (movedPages f (moves c z) n p)
+  pub own-page : (p : ℕ) → p ≡ c / 7 → SamePage (movedPage (f (c / 7)) (c % 7) z n) (movedPages f (moves c z) n p)
   own-page p e = record {
     mark = rw (eq-eqb (c / 7) p (sym e));
     cells = λ j h. place j (eqb j (c % 7)) refl h;

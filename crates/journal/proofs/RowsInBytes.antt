@@ -20,7 +20,7 @@ use Rattle.journal.specs.Force.{chunks, shifted}
 pub snoc-length : (w : List Row) (r : Row) → length (w ++ (r ∷ [])) ≡ suc (length w)
 snoc-length w r = length-append w (r ∷ []) ∙ omega arith
 
-snoc-bytes : (n : ℕ) (w : List Row) (r : Row) → rowsBytes n (w ++ (r ∷ [])) ≡ rowsBytes n w ++ rowBytes (n + length w) r
+pub snoc-bytes : (n : ℕ) (w : List Row) (r : Row) → rowsBytes n (w ++ (r ∷ [])) ≡ rowsBytes n w ++ rowBytes (n + length w) r
 snoc-bytes n [] r = rw (add-zero n) (append-nil (rowBytes n r))
 snoc-bytes n (q ∷ w) r =
     let e : n + suc (length w) ≡ suc n + length w = omega arith in
