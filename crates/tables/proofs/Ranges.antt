@@ -14,7 +14,7 @@ use Rattle.tables.specs.declared.Found.{Found}
 use Rattle.tables.specs.declared.Found.the-variants.{At, Nothing}
 use Rattle.tables.specs.Visits.{InRange, isOf, withBegun, withUndo, withEnded}
 use Rattle.tables.specs.Table.{find, grows, changedAt, scopesChanged, scopesEnded}
-use Rattle.tables.specs.Rows.{Index, isSome, growsBy, endedBy, stepBy, Takes}
+use Rattle.tables.specs.Rows.{Index, isSome, growsBy, afterEnd, stepBy, Takes}
 
 module _ {A : Type 0} where
   keep-one : (p : A → Bool) (x : A) (xs : List A) (b : Bool) → p x ≡ b → length (keep p xs) ≤ length xs → length (keep p (x ∷ xs)) ≤ suc (length xs)
@@ -33,7 +33,7 @@ changed-few : (used n v c : ℕ) (ss : List Scope) (f : Found) → used ≤ 64 �
 changed-few used n v c ss (At i) h k = h
 changed-few used n v c ss Nothing h k = ltb-true _ _ k
 
-ended-range : (x : Index) (v : ℕ) → InRange (x .tables) → InRange (endedBy x v .tables)
+ended-range : (x : Index) (v : ℕ) → InRange (x .tables) → InRange (afterEnd x v .tables)
 unfolding withEnded scopesEnded
 ended-range x v h = record {
   count = kept-few (λ a. not (isOf v a)) (x .tables .count) 16 (x .tables .active) (h .count);

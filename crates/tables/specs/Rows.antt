@@ -3,7 +3,7 @@
 use Prim.Native.Nat.{ℕ, suc, _+_, _-_}
 use mathlib.Core.Path.{_≡_}
 use mathlib.Core.Bool.{Bool, true, false, cond, not, _&&_, _||_}
-use mathlib.Core.List.{List, [], _∷_}
+use mathlib.Core.List.{List}
 use lib.IntN.{ℤ}
 use lib.ListN.{length}
 use lib.Dec.{eqb, leb, ltb}
@@ -12,7 +12,7 @@ use Rattle.book.specs.Limits.{rowLimit, activeLimit, scopeLimit}
 use Rattle.book.specs.Rows.{Row, begin, change, handOver, undo, commit, abort}
 use Rattle.book.specs.Scopes.{Scope}
 use Rattle.tables.specs.declared.Tables.{Tables}
-use Rattle.tables.specs.declared.Whom.the-variants.{One, All}
+use Rattle.tables.specs.declared.Whom.the-variants.{One}
 use Rattle.tables.specs.declared.Found.{Found}
 use Rattle.tables.specs.declared.Found.the-variants.{At, Nothing}
 use Rattle.tables.specs.declared.Verdict.{Verdict}
@@ -84,8 +84,12 @@ lawfulBy x named (abort v) = mayAbort x v
 abbrev pub roomToBegin : Index → ℕ → Bool
 roomToBegin x rows = ltb (x .tables .count) activeLimit && roomBy x rows 2
 
+-- a change grows a scope, or an entry is vacant
+abbrev pub hasEntry : Index → ℕ → ℕ → Bool
+hasEntry x v c = growsBy x v c || ltb (x .tables .used) scopeLimit
+
 abbrev pub roomToChange : Index → ℕ → ℕ → ℕ → Bool
-roomToChange x rows v c = (growsBy x v c || ltb (x .tables .used) scopeLimit) && roomBy x rows 2
+roomToChange x rows v c = hasEntry x v c && roomBy x rows 2
 
 -- 01: what a row needs of the sixteen visits, the scopes and the free rows
 unfoldable pub withinLimitsBy : Index → ℕ → Row → Bool
@@ -103,33 +107,33 @@ judgeBy x rows named r =
 -- ── The tables after an allowed row ───────────────────────────────────────────────────────────────────────────────────
 
 -- a change in row n
-abbrev pub changedBy : Index → ℕ → ℕ → ℕ → Index
-changedBy x n v c =
+abbrev pub afterChange : Index → ℕ → ℕ → ℕ → Index
+afterChange x n v c =
     let s : Scopes = scopesChanged (x .tables .used) n v c (x .scopes) in
     record { tables = withUsed (x .tables) (s .used); scopes = s .entries }
 
-abbrev pub handedBy : Index → ℕ → ℕ → ℕ → Index
-handedBy x g r c = record { tables = x .tables; scopes = scopesHanded (x .tables .used) g r c (x .scopes) }
+abbrev pub afterHandOver : Index → ℕ → ℕ → ℕ → Index
+afterHandOver x g r c = record { tables = x .tables; scopes = scopesHanded (x .tables .used) g r c (x .scopes) }
 
 -- an undo of the holder's highest open change
-abbrev pub undoneBy : Index → ℕ → ℕ → Index
-undoneBy x h before =
+abbrev pub afterUndo : Index → ℕ → ℕ → Index
+afterUndo x h before =
     record { tables = withUndo (x .tables) h; scopes = scopesUndone (One (record { 0 = h })) (x .tables .used) before (x .scopes) }
 
 -- a commit or an abort
-abbrev pub endedBy : Index → ℕ → Index
-endedBy x v =
+abbrev pub afterEnd : Index → ℕ → Index
+afterEnd x v =
     let s : Scopes = scopesEnded (x .tables .used) v (x .scopes) in
     record { tables = withEnded (x .tables) v (s .used); scopes = s .entries }
 
 -- the row has number n
 unfoldable pub stepBy : Index → ℕ → ℕ → Row → Index
 stepBy x n before (begin v) = record { tables = withBegun (x .tables) v; scopes = x .scopes }
-stepBy x n before (change v c a) = changedBy x n v c
-stepBy x n before (handOver g r c) = handedBy x g r c
-stepBy x n before (undo h c k a) = undoneBy x h before
-stepBy x n before (commit v) = endedBy x v
-stepBy x n before (abort v) = endedBy x v
+stepBy x n before (change v c a) = afterChange x n v c
+stepBy x n before (handOver g r c) = afterHandOver x g r c
+stepBy x n before (undo h c k a) = afterUndo x h before
+stepBy x n before (commit v) = afterEnd x v
+stepBy x n before (abort v) = afterEnd x v
 
 -- ── What the functions ask ────────────────────────────────────────────────────────────────────────────────────────────
 
@@ -141,10 +145,6 @@ index t s = record { tables = t; scopes = entries s }
 pub record Ready (t : Tables) (size : ℕ) : Type 0 where
   pub range : InRange t
   pub long : size ≡ flatLength
-
--- a change grows a scope, or an entry is vacant
-abbrev pub hasEntry : Index → ℕ → ℕ → Bool
-hasEntry x v c = growsBy x v c || ltb (x .tables .used) scopeLimit
 
 pub record MayChange (t : Tables) (s : List ℕ) (v c : ℕ) : Type 0 where
   pub ready : Ready t (length s)

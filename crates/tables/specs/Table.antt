@@ -1,10 +1,10 @@
 -- What the functions over the scope table compute, as equations on its 64 entries. `used` is the number of entries in use; the rest is not looked at.
-use Prim.Native.Nat.{ℕ, zero, suc, _+_, _-_, _%_, _≤_, _<_}
+use Prim.Native.Nat.{ℕ, suc, _+_, _-_, _%_, _≤_, _<_}
 use mathlib.Core.Path.{_≡_}
-use mathlib.Core.Bool.{Bool, true, false, cond, not, _&&_, _||_}
+use mathlib.Core.Bool.{Bool, true, false, cond, not, _&&_}
 use mathlib.Core.List.{List, [], _∷_, _++_, map}
 use lib.ListN.{length, take, drop, set, getD}
-use lib.Dec.{eqb, ltb, leb}
+use lib.Dec.{eqb, ltb}
 use Rattle.book.specs.Lists.{keep, any, padTo}
 use Rattle.book.specs.Limits.{scopeLimit}
 use Rattle.book.specs.Scopes.{Scope, unused}

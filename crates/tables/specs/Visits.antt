@@ -1,8 +1,8 @@
 -- What the functions over the active visits compute, as equations on the struct `Tables`.
-use Prim.Native.Nat.{ℕ, zero, suc, _+_, _≤_, _<_}
+use Prim.Native.Nat.{ℕ, suc, _≤_, _<_}
 use mathlib.Core.Path.{_≡_}
-use mathlib.Core.Bool.{Bool, true, false, cond, not, _&&_, _||_}
-use mathlib.Core.List.{List, [], _∷_, _++_, map}
+use mathlib.Core.Bool.{Bool, false, cond, not, _&&_, _||_}
+use mathlib.Core.List.{List, _++_, map}
 use lib.ListN.{length, take, drop, set, getD, replicate}
 use lib.Dec.{eqb}
 use Rattle.book.specs.Lists.{keep, any, padTo}

@@ -1,6 +1,5 @@
 // The flat scope table, entry by entry: seven numbers each, in the order of the struct's fields.
 ghost use mathlib.Core.Path.{_≡_};
-ghost use Prim.Native.Nat.{_≤_, _<_};
 ghost use lib.ListN.{length, getD, set, replicate};
 ghost use Rattle.book.specs.Scopes.{unused};
 ghost use Rattle.tables.specs.Entries.{flatLength, Inside, scopeIn, flag, entries as entriesOf, Counted};

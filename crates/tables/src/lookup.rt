@@ -1,7 +1,7 @@
 // What is found in the scope table: the scope that may grow, a cell that a visit holds, the highest open change, the number of open changes.
 ghost use mathlib.Core.Path.{_≡_};
 ghost use Prim.Native.Nat.{_<_};
-ghost use lib.ListN.{length, getD};
+ghost use lib.ListN.{length};
 ghost use Rattle.tables.specs.Entries.{Sized, scopeIn, entries as entriesOf};
 ghost use Rattle.tables.specs.Table.{find, grows, holdsCell, highest as highestIn, lastAt, openCount, betterOf, Reaches};
 use crate::Candidate;

@@ -1,13 +1,14 @@
 // The row rules by the tables: what a row needs of visits, cells, holders and undo rows, and of the sixteen visits, the scopes and the free rows.
 ghost use mathlib.Core.Path.{_≡_};
-ghost use mathlib.Core.Bool.{not, _&&_};
-ghost use Prim.Native.Nat.{suc, _-_, _≤_, _<_};
+ghost use mathlib.Core.Bool.{_&&_};
+ghost use Prim.Native.Nat.{suc, _-_, _<_};
 ghost use lib.ListN.{length};
 ghost use lib.Dec.{eqb};
 ghost use Rattle.book.specs.Lists.{eqZ};
 ghost use Rattle.rows.specs.Meaning.{meant};
-ghost use Rattle.tables.specs.Visits.{InRange, isListed, isBearing};
-ghost use Rattle.tables.specs.Rows.{Ready, index, reserveBy, roomBy, highestOf, growsBy, isChange, mayAct, mayHandOver, mayUndo, mayAbort, lawfulBy, roomToBegin, roomToChange, withinLimitsBy, judgeBy};
+ghost use Rattle.tables.specs.Visits.{InRange};
+ghost use Rattle.tables.specs.Rows.{Ready, index, reserveBy, roomBy, highestOf, growsBy, isChange, mayAct};
+ghost use Rattle.tables.specs.Rows.{mayHandOver, mayUndo, mayAbort, lawfulBy, roomToBegin, roomToChange, withinLimitsBy, judgeBy};
 use crate::Found;
 use crate::Tables;
 use crate::Verdict;

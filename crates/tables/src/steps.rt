@@ -3,7 +3,7 @@ ghost use mathlib.Core.Path.{_≡_};
 ghost use lib.ListN.{length};
 ghost use Rattle.rows.specs.Meaning.{meant};
 ghost use Rattle.tables.specs.Visits.{withUsed};
-ghost use Rattle.tables.specs.Rows.{Ready, Steps, MayChange, index, handedBy, changedBy, undoneBy, endedBy, stepBy};
+ghost use Rattle.tables.specs.Rows.{Ready, Steps, MayChange, index, afterHandOver, afterChange, afterUndo, afterEnd, stepBy};
 use crate::Found;
 use crate::Tables;
 use crate::Whom;
@@ -36,7 +36,7 @@ fn with_used(t: Tables, used: usize) -> Tables
 // A change in row n.
 fn after_change(t: Tables, scopes: &mut [u16], n: Lsn, v: Visit, c: Cell) -> Tables
     requires { ⌜ MayChange t (now scopes) (v .0) (c .0) ⌝ }
-    ensures { λ r. ⌜ index r (now (scopes .exit)) ≡ changedBy (index t (now (scopes .entry))) (n .0) (v .0) (c .0) ⌝ }
+    ensures { λ r. ⌜ index r (now (scopes .exit)) ≡ afterChange (index t (now (scopes .entry))) (n .0) (v .0) (c .0) ⌝ }
 {
     let used = note_change(scopes, t.used, n, v, c);
     with_used(t, used)
@@ -44,7 +44,7 @@ fn after_change(t: Tables, scopes: &mut [u16], n: Lsn, v: Visit, c: Cell) -> Tab
 
 fn after_hand_over(t: Tables, scopes: &mut [u16], g: Visit, r: Visit, c: Cell) -> Tables
     requires { ⌜ Ready t (length (now scopes)) ⌝ }
-    ensures { λ x. ⌜ index x (now (scopes .exit)) ≡ handedBy (index t (now (scopes .entry))) (g .0) (r .0) (c .0) ⌝ }
+    ensures { λ x. ⌜ index x (now (scopes .exit)) ≡ afterHandOver (index t (now (scopes .entry))) (g .0) (r .0) (c .0) ⌝ }
 {
     hand_over(scopes, t.used, g, r, c);
     t
@@ -53,7 +53,7 @@ fn after_hand_over(t: Tables, scopes: &mut [u16], g: Visit, r: Visit, c: Cell) -
 // The holder's highest open change is undone; `before` is the change before it in its scope, 0 for none.
 fn after_undo(t: Tables, scopes: &mut [u16], h: Visit, before: Lsn) -> Tables
     requires { ⌜ Ready t (length (now scopes)) ⌝ }
-    ensures { λ r. ⌜ index r (now (scopes .exit)) ≡ undoneBy (index t (now (scopes .entry))) (h .0) (before .0) ⌝ }
+    ensures { λ r. ⌜ index r (now (scopes .exit)) ≡ afterUndo (index t (now (scopes .entry))) (h .0) (before .0) ⌝ }
 {
     let found = highest(scopes, t.used, Whom::One(h));
     match found {
@@ -68,7 +68,7 @@ fn after_undo(t: Tables, scopes: &mut [u16], h: Visit, before: Lsn) -> Tables
 // A commit or an abort.
 fn after_end(t: Tables, scopes: &mut [u16], v: Visit) -> Tables
     requires { ⌜ Ready t (length (now scopes)) ⌝ }
-    ensures { λ r. ⌜ index r (now (scopes .exit)) ≡ endedBy (index t (now (scopes .entry))) (v .0) ⌝ }
+    ensures { λ r. ⌜ index r (now (scopes .exit)) ≡ afterEnd (index t (now (scopes .entry))) (v .0) ⌝ }
 {
     let used = end_visit(scopes, t.used, v);
     with_ended(t, v, used)

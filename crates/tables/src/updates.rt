@@ -1,12 +1,12 @@
 // The scope table after a row: a change, a hand-over, an undo, the end of a visit.
 ghost use mathlib.Core.Path.{_≡_};
-ghost use Prim.Native.Nat.{_≤_, _<_};
 ghost use lib.ListN.{length, getD, set, take};
 ghost use Rattle.book.specs.Lists.{padTo};
 ghost use Rattle.book.specs.Scopes.{unused as unusedScope};
 ghost use Rattle.tables.specs.declared.Found.the-variants.{At};
-ghost use Rattle.tables.specs.Entries.{flatLength, Sized, Inside, entries as entriesOf};
-ghost use Rattle.tables.specs.Table.{scopesIn, MayNote, Moves, ClosedRanks, scopesChanged, scopesHanded, scopesEnded, handedOn, movedAt, undoneAt};
+ghost use Rattle.tables.specs.Entries.{Sized, Inside, entries as entriesOf};
+ghost use Rattle.tables.specs.Table.{scopesIn, MayNote, Moves, ClosedRanks, scopesChanged};
+ghost use Rattle.tables.specs.Table.{scopesHanded, scopesEnded, handedOn, movedAt, undoneAt};
 use crate::Found;
 use crate::entries::entry_at;
 use crate::entries::put_entry;

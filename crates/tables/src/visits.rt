@@ -1,7 +1,8 @@
 // The active visits, in the first `count` places of the struct's array.
 ghost use mathlib.Core.Path.{_≡_};
-ghost use Prim.Native.Nat.{suc, _<_, _≤_};
-ghost use Rattle.tables.specs.Visits.{InRange, Begins, Without, isOf, isBearer, marked, isListed, isBearing, withBegun, withUndo, withEnded, keptAt, vacated, noTables};
+ghost use Prim.Native.Nat.{_<_, _≤_};
+ghost use Rattle.tables.specs.Visits.{InRange, Begins, Without, isOf, isBearer, marked, isListed};
+ghost use Rattle.tables.specs.Visits.{isBearing, withBegun, withUndo, withEnded, keptAt, vacated, noTables};
 use crate::Active;
 use crate::Tables;
 use rows::Visit;

@@ -1,4 +1,4 @@
--- `tables::entries::clear` meets its contract. Assumes nothing.
+-- `tables::entries::clear` meets its contract. The loop's invariant: the numbers passed are 0, the others are as they were. Assumes nothing.
 use Prim.Native.Nat.{ℕ, _-_, _≤_}
 use mathlib.Core.List.{List, _++_, append-nil}
 use mathlib.Core.Path.{_≡_, refl, _∙_, ap}
@@ -32,14 +32,16 @@ loop-less : tie.Need-loop-less Inv-loop μ-loop
 loop-less c = omega arith
 
 loop-again : tie.Need-loop-again Inv-loop μ-loop
-loop-again c = let l = c .before .loop in
+loop-again c =
+    let l = c .before .loop in
     (omega arith, simp length-set (l .inv .1), ap (λ (x : List ℕ). set x (l .i) 0) (l .inv .2) ∙ fill-more (l .i) 0 _ (omega arith))
 
 same-length : tie.Need-same-length Inv-loop μ-loop
 same-length c = c .before .loop .inv .1
 
 returns : tie.Need-returns Inv-loop μ-loop
-returns c = let l = c .before .loop in
+returns c =
+    let l = c .before .loop in
     let s = c .before .before in
     let e : l .i ≡ length (s .args .t .now) = omega arith in
     let z : l .t ≡ replicate (length (s .args .t .now)) 0 = l .inv .2 ∙ rw (e, drop-length) (append-nil _) in

@@ -22,7 +22,8 @@ cast-result : tie.Need-cast-result
 cast-result c = omega (arith, c .shared-slice-known .given (7 * c .before .args .i + 6))
 
 returns : tie.Need-returns
-returns c = let s = c .before in
+returns c =
+    let s = c .before in
     record {
       count = rw (entries-at _ _ (s .pre .below));
       small = omega (arith, c .shared-slice-known .given (7 * s .args .i + 6));

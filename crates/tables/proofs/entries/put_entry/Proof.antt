@@ -76,8 +76,13 @@ same-length : tie.Need-same-length
 same-length c = search needs
 
 returns : tie.Need-returns
-returns c = let s = c .before .before in let e = s .args .e in
-    rw (c .flag-of .ensures) (stores-set (s .args .t .now) (s .args .i) (e .maker) (e .holder) (e .cell) (e .first) (e .last) (e .count) (e .handed) (s .pre .below) (s .pre .long))
+returns c =
+    let s = c .before .before in
+    let t = s .args .t .now in
+    let e = s .args .e in
+    let m = s .pre in
+    rw (c .flag-of .ensures)
+    (stores-set t (s .args .i) (e .maker) (e .holder) (e .cell) (e .first) (e .last) (e .count) (e .handed) (m .below) (m .long))
 
 pub put-entry-spec : {M : Type 1} → statement M
 put-entry-spec =

@@ -1,9 +1,11 @@
--- `tables::lookup::find_growing` meets its contract. Assumes nothing.
-use Prim.Native.Nat.{_-_, _≤_}
-use mathlib.Core.Bool.{true, false}
+-- `tables::lookup::find_growing` meets its contract. The loop's invariant: the search of all entries in use gives what the search of those left gives. Assumes nothing.
+use Prim.Native.Nat.{_+_, _-_, _≤_}
+use mathlib.Core.Bool.{cond}
 use mathlib.Core.Path.{_≡_, refl, sym, _∙_}
 use native.Mathlib.Omega.{arith}
-use lib.ListN.{take}
+use lib.ListN.{getD, take}
+use Rattle.book.specs.Scopes.{unused}
+use Rattle.tables.specs.declared.Found.the-variants.{At}
 use Rattle.tables.specs.Entries.{entries}
 use Rattle.tables.specs.Table.{findFrom, find, grows}
 use Rattle.tables.proofs.Loops.{left, left-end}
@@ -12,7 +14,9 @@ use Rattle.tables.proofs.lookup.find_growing.Statement.{statement}
 use Rattle.tables.proofs.lookup.find_growing.Tie as tie
 
 abbrev Inv-loop : tie.InvT-loop
-Inv-loop t used v c i₀ i = (i ≤ used) × (findFrom (grows (v .0) (c .0)) 0 (take used (entries t)) ≡ findFrom (grows (v .0) (c .0)) i (left used i (entries t)))
+Inv-loop t used v c i₀ i =
+    let p = grows (v .0) (c .0) in
+    (i ≤ used) × (findFrom p 0 (take used (entries t)) ≡ findFrom p i (left used i (entries t)))
 
 abbrev μ-loop : tie.MeasureT-loop
 μ-loop t used v c i₀ i = used - i
@@ -26,13 +30,23 @@ entry-at-requires c κs = record { long = c .before .before .before .pre .long; 
 may-grow-requires : tie.Need-may-grow-requires Inv-loop μ-loop
 may-grow-requires c κs = tt
 
+-- a turn: the entry's test, and what is left after it
+turn : (c : tie.After-may-grow Inv-loop μ-loop) →
+    let s = c .before .before .before .before .before in
+    let l = c .before .before .before .loop in
+    let p = grows (s .args .v .0) (s .args .c .0) in
+    let ss = entries (s .args .t .now) in
+    findFrom p (l .i) (left (s .args .used) (l .i) ss) ≡ cond (c .may-grow .result) (At (l .i)) (findFrom p (l .i + 1) (left (s .args .used) (l .i + 1) ss))
+turn c =
+    let s = c .before .before .before .before .before in
+    let l = c .before .before .before .loop in
+    let p = grows (s .args .v .0) (s .args .c .0) in
+    let e : p (getD (entries (s .args .t .now)) (l .i) unused) ≡ c .may-grow .result = rw (← c .before .entry-at .ensures) (sym (c .may-grow .ensures)) in
+    find-next (s .args .t .now) (s .args .used) (l .i) (c .before .before .loop-test .taken) (s .pre .within) p (c .may-grow .result) e
+
 returns : tie.Need-returns Inv-loop μ-loop
 unfolding find
-returns c = let s = c .before .before .before .before .before .before in
-    let l = c .before .before .before .before .loop in
-    let e = find-next (s .args .t .now) (s .args .used) (l .i) (c .before .before .before .loop-test .taken) (s .pre .within) (grows (s .args .v .0) (s .args .c .0)) true
-    (rw (← c .before .before .entry-at .ensures, ← c .before .may-grow .ensures) (c .if1 .taken)) in
-    sym (l .inv .1 ∙ e)
+returns c = sym (c .before .before .before .before .loop .inv .1 ∙ turn (c .before) ∙ rw (c .if1 .taken))
 
 add-i : tie.Need-add-i Inv-loop μ-loop
 add-i c = omega arith
@@ -41,15 +55,12 @@ loop-less : tie.Need-loop-less Inv-loop μ-loop
 loop-less c = omega arith
 
 loop-again : tie.Need-loop-again Inv-loop μ-loop
-loop-again c = let s = c .before .before .before .before .before .before in
-    let l = c .before .before .before .before .loop in
-    let e = find-next (s .args .t .now) (s .args .used) (l .i) (c .before .before .before .loop-test .taken) (s .pre .within) (grows (s .args .v .0) (s .args .c .0)) false
-    (rw (← c .before .before .entry-at .ensures, ← c .before .may-grow .ensures) (c .if1 .left)) in
-    (omega arith, l .inv .1 ∙ e)
+loop-again c = (omega arith, c .before .before .before .before .loop .inv .1 ∙ turn (c .before) ∙ rw (c .if1 .left))
 
 returns-2 : tie.Need-returns-2 Inv-loop μ-loop
 unfolding find
-returns-2 c = let l = c .before .loop in sym (l .inv .1 ∙ rw (left-end _ (l .i) _ (c .loop-test .left)))
+returns-2 c =
+    let l = c .before .loop in sym (l .inv .1 ∙ rw (left-end _ (l .i) _ (c .loop-test .left)))
 
 pub find-growing-spec : {M : Type 1} → statement M
 find-growing-spec =

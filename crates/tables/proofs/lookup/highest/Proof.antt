@@ -1,17 +1,20 @@
--- `tables::lookup::highest` meets its contract. Assumes nothing.
+-- `tables::lookup::highest` meets its contract. The loop's invariant: the search of all entries in use gives what the search of those left gives, from the best one so far. Assumes nothing.
 use Prim.Native.Nat.{_-_, _≤_}
 use mathlib.Core.Path.{_≡_, refl, sym, _∙_}
 use native.Mathlib.Omega.{arith}
-use lib.ListN.{take}
+use lib.ListN.{getD, take}
+use Rattle.book.specs.Scopes.{unused}
+use Rattle.tables.specs.Table.{betterOf, highestFrom, highest}
 use Rattle.tables.specs.Entries.{entries}
-use Rattle.tables.specs.Table.{highestFrom, highest}
 use Rattle.tables.proofs.Loops.{left, left-end}
 use Rattle.tables.proofs.Searches.{highest-next}
 use Rattle.tables.proofs.lookup.highest.Statement.{statement}
 use Rattle.tables.proofs.lookup.highest.Tie as tie
 
 abbrev Inv-loop : tie.InvT-loop
-Inv-loop t used w best₀ i₀ best i = (i ≤ used) × (highestFrom w 0 0 (best₀ .at) (take used (entries t)) ≡ highestFrom w i (best .last) (best .at) (left used i (entries t)))
+Inv-loop t used w best₀ i₀ best i =
+    let ss = entries t in
+    (i ≤ used) × (highestFrom w 0 0 (best₀ .at) (take used ss) ≡ highestFrom w i (best .last) (best .at) (left used i ss))
 
 abbrev μ-loop : tie.MeasureT-loop
 μ-loop t used w best₀ i₀ best i = used - i
@@ -32,16 +35,18 @@ loop-less : tie.Need-loop-less Inv-loop μ-loop
 loop-less c = omega arith
 
 loop-again : tie.Need-loop-again Inv-loop μ-loop
-loop-again c = let s = c .before .before .before .before .before in
-    let l = c .before .before .before .loop in (
-      omega arith,
-      l .inv .1 ∙ highest-next (s .args .t .now) (s .args .used) (l .i) (c .before .before .loop-test .taken) (s .pre .within) (s .args .w) (l .best) (c .better .result)
-          (rw (← c .before .entry-at .ensures) (c .better .ensures)),
-    )
+loop-again c =
+    let s = c .before .before .before .before .before in
+    let l = c .before .before .before .loop in
+    let t = s .args .t .now in
+    let e : c .better .result ≡ betterOf (s .args .w) (l .i) (l .best) (getD (entries t) (l .i) unused) = rw (← c .before .entry-at .ensures) (c .better .ensures) in
+    let turn = highest-next t (s .args .used) (l .i) (c .before .before .loop-test .taken) (s .pre .within) (s .args .w) (l .best) (c .better .result) e in
+    (omega arith, l .inv .1 ∙ turn)
 
 returns : tie.Need-returns Inv-loop μ-loop
 unfolding highest
-returns c = let l = c .before .loop in sym (l .inv .1 ∙ rw (left-end _ (l .i) _ (c .loop-test .left)))
+returns c =
+    let l = c .before .loop in sym (l .inv .1 ∙ rw (left-end _ (l .i) _ (c .loop-test .left)))
 
 pub highest-spec : {M : Type 1} → statement M
 highest-spec =

@@ -9,7 +9,8 @@ enum-known-found : tie.Need-enum-known-found
 enum-known-found c = search needs
 
 entry-at-requires : tie.Need-entry-at-requires
-entry-at-requires c κs = let s = c .before .before .before .before in
+entry-at-requires c κs =
+    let s = c .before .before .before .before in
     let k : Reaches _ (At (c .before .found .given .0 .0)) = rw (c .before .found .given .1) at (s .pre) in
     record { long = k .0; below = k .1 }
 

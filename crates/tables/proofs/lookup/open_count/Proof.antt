@@ -1,4 +1,4 @@
--- `tables::lookup::open_count` meets its contract. Assumes nothing.
+-- `tables::lookup::open_count` meets its contract. The loop's invariant: the sum so far and the counts of the entries left are all counts, and each was of 16 bits. Assumes nothing.
 use Prim.Native.Nat.{_*_, _+_, _-_, _≤_}
 use mathlib.Core.Path.{_≡_, _∙_}
 use native.Mathlib.Omega.{arith}
@@ -11,7 +11,8 @@ use Rattle.tables.proofs.lookup.open_count.Statement.{statement}
 use Rattle.tables.proofs.lookup.open_count.Tie as tie
 
 abbrev Inv-loop : tie.InvT-loop
-Inv-loop t used sum₀ i₀ sum i = (i ≤ used) × (sum ≤ 65535 * i) × (countAll (take used (entries t)) ≡ sum + countAll (left used i (entries t)))
+Inv-loop t used sum₀ i₀ sum i =
+    (i ≤ used) × (sum ≤ 65535 * i) × (countAll (take used (entries t)) ≡ sum + countAll (left used i (entries t)))
 
 abbrev μ-loop : tie.MeasureT-loop
 μ-loop t used sum₀ i₀ sum i = used - i
@@ -32,15 +33,20 @@ loop-less : tie.Need-loop-less Inv-loop μ-loop
 loop-less c = omega arith
 
 loop-again : tie.Need-loop-again Inv-loop μ-loop
-loop-again c = let s = c .before .before .before .before in
+loop-again c =
+    let s = c .before .before .before .before in
     let l = c .before .before .loop in
-    (omega arith, omega (arith, c .count-at .ensures .small), l .inv .2 ∙ omega (arith, c .count-at .ensures .count, count-next (s .args .t .now) (s .args .used) (l .i) (c .before .loop-test .taken) (s .pre .within)))
+    let e = c .count-at .ensures in
+    let turn = count-next (s .args .t .now) (s .args .used) (l .i) (c .before .loop-test .taken) (s .pre .within) in
+    (omega arith, omega (arith, e .small), l .inv .2 ∙ omega (arith, e .count, turn))
 
 returns : tie.Need-returns Inv-loop μ-loop
 unfolding openCount
-returns c = let l = c .before .loop in
-    let e : countAll (left (c .before .before .before .args .used) (l .i) (entries (c .before .before .before .args .t .now))) ≡ 0 = rw (left-end _ (l .i) _ (c .loop-test .left)) in
-    (omega (arith, l .inv .2), omega (arith, c .before .before .before .pre .within))
+returns c =
+    let s = c .before .before .before in
+    let l = c .before .loop in
+    let none : countAll (left (s .args .used) (l .i) (entries (s .args .t .now))) ≡ 0 = rw (left-end _ (l .i) _ (c .loop-test .left)) in
+    (omega (arith, l .inv .2), omega (arith, s .pre .within))
 
 pub open-count-spec : {M : Type 1} → statement M
 open-count-spec =

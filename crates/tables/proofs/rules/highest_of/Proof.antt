@@ -9,7 +9,8 @@ highest-requires : tie.Need-highest-requires
 highest-requires c κs = search needs
 
 last-at-requires : tie.Need-last-at-requires
-last-at-requires c κs = let s = c .before .before in reaches _ _ _ _ _ (c .highest .ensures) (s .pre .range .used) (s .pre .long)
+last-at-requires c κs =
+    let s = c .before .before in reaches _ _ _ _ _ (c .highest .ensures) (s .pre .range .used) (s .pre .long)
 
 returns : tie.Need-returns
 unfolding highestOf

@@ -30,7 +30,14 @@ returns : tie.Need-returns
 returns c = search needs
 
 returns-2 : tie.Need-returns-2
-returns-2 c = let r = c .before .before .row in rw (r .given .1, c .is-same .ensures, toZ-ofZ {w = w16} {z = r .given .0 .1 .1 .0} (search needs), toZ-ofZ (c .before .before .before .before .fits .a))
+returns-2 c =
+    let r = c .before .before .row in
+    rw (
+      r .given .1,
+      c .is-same .ensures,
+      toZ-ofZ {w = w16} {z = r .given .0 .1 .1 .0} (search needs),
+      toZ-ofZ (c .before .before .before .before .fits .a),
+    )
 
 returns-3 : tie.Need-returns-3
 returns-3 c = search needs

@@ -5,7 +5,8 @@ use Rattle.tables.proofs.rules.is_same.Statement.{statement}
 use Rattle.tables.proofs.rules.is_same.Tie as tie
 
 returns : tie.Need-returns
-returns c = let s = c .before .before .before in rw (eq-eqb _ _ (c .if1 .taken), same-bits (s .args .z) (s .args .a) (s .fits .z) (s .fits .a))
+returns c =
+    let s = c .before .before .before in rw (eq-eqb _ _ (c .if1 .taken), same-bits (s .args .z) (s .args .a) (s .fits .z) (s .fits .a))
 
 returns-2 : tie.Need-returns-2
 returns-2 c = rw (ne-eqb _ _ (c .if1 .left))

@@ -17,11 +17,23 @@ is-within-limits-requires c κs = search needs
 
 returns-2 : tie.Need-returns-2
 unfolding judgeBy
-returns-2 c = rw (← c .before .before .before .is-lawful .ensures, not-false (c .before .before .before .is-lawful .result) (c .before .before .if1 .left), ← c .before .is-within-limits .ensures, not-true (c .before .is-within-limits .result) (c .if2 .taken))
+returns-2 c =
+    rw (
+      ← c .before .before .before .is-lawful .ensures,
+      not-false (c .before .before .before .is-lawful .result) (c .before .before .if1 .left),
+      ← c .before .is-within-limits .ensures,
+      not-true (c .before .is-within-limits .result) (c .if2 .taken),
+    )
 
 returns-3 : tie.Need-returns-3
 unfolding judgeBy
-returns-3 c = rw (← c .before .before .before .is-lawful .ensures, not-false (c .before .before .before .is-lawful .result) (c .before .before .if1 .left), ← c .before .is-within-limits .ensures, not-false (c .before .is-within-limits .result) (c .if2 .left))
+returns-3 c =
+    rw (
+      ← c .before .before .before .is-lawful .ensures,
+      not-false (c .before .before .before .is-lawful .result) (c .before .before .if1 .left),
+      ← c .before .is-within-limits .ensures,
+      not-false (c .before .is-within-limits .result) (c .if2 .left),
+    )
 
 pub judge-spec : {M : Type 1} → statement M
 judge-spec =

@@ -14,7 +14,12 @@ highest-of-requires : tie.Need-highest-of-requires
 highest-of-requires c κs = search needs
 
 returns-2 : tie.Need-returns-2
-returns-2 c = rw (← c .before .before .before .is-listed .ensures, not-false (c .before .before .before .is-listed .result) (c .before .before .if1 .left), c .before .highest-of .ensures)
+returns-2 c =
+    rw (
+      ← c .before .before .before .is-listed .ensures,
+      not-false (c .before .before .before .is-listed .result) (c .before .before .if1 .left),
+      c .before .highest-of .ensures,
+    )
 
 pub may-abort-spec : {M : Type 1} → statement M
 may-abort-spec = tie.close (tie.spec is-listed-requires returns highest-of-requires returns-2)

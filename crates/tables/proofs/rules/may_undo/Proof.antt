@@ -12,13 +12,25 @@ highest-of-requires : tie.Need-highest-of-requires
 highest-of-requires c κs = search needs
 
 returns-2 : tie.Need-returns-2
-returns-2 c = rw (le-leb _ _ (c .before .before .before .before .if1 .left), ← c .before .before .before .highest-of .ensures, ne-eqb _ _ (c .if2 .taken))
+returns-2 c =
+    rw (
+      le-leb _ _ (c .before .before .before .before .if1 .left),
+      ← c .before .before .before .highest-of .ensures,
+      ne-eqb _ _ (c .if2 .taken),
+    )
 
 is-change-requires : tie.Need-is-change-requires
 is-change-requires c κs = search needs
 
 returns-3 : tie.Need-returns-3
-returns-3 c = rw (le-leb _ _ (c .before .before .before .before .before .if1 .left), ← c .before .before .before .before .highest-of .ensures, eq-eqb _ _ (c .before .if2 .left), c .is-change .ensures, toZ-ofZ (c .before .before .before .before .before .before .before .before .fits .a))
+returns-3 c =
+    rw (
+      le-leb _ _ (c .before .before .before .before .before .if1 .left),
+      ← c .before .before .before .before .highest-of .ensures,
+      eq-eqb _ _ (c .before .if2 .left),
+      c .is-change .ensures,
+      toZ-ofZ (c .before .before .before .before .before .before .before .before .fits .a),
+    )
 
 pub may-undo-spec : {M : Type 1} → statement M
 may-undo-spec =

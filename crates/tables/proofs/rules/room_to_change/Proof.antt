@@ -17,7 +17,13 @@ has-room-requires-2 : tie.Need-has-room-requires-2
 has-room-requires-2 c κs = search needs
 
 returns-2 : tie.Need-returns-2
-returns-2 c = rw (← c .before .before .before .before .grows-scope .ensures, c .before .before .before .if1 .left, lt-ltb _ _ (c .before .if2 .taken), c .has-room2 .ensures)
+returns-2 c =
+    rw (
+      ← c .before .before .before .before .grows-scope .ensures,
+      c .before .before .before .if1 .left,
+      lt-ltb _ _ (c .before .if2 .taken),
+      c .has-room2 .ensures,
+    )
 
 returns-3 : tie.Need-returns-3
 returns-3 c = rw (← c .before .before .before .grows-scope .ensures, c .before .before .if1 .left, le-ltb _ _ (c .if2 .left))

@@ -14,7 +14,10 @@ enum-known-found : tie.Need-enum-known-found
 enum-known-found c = search needs
 
 undo-at-requires : tie.Need-undo-at-requires
-undo-at-requires c κs = let s = c .before .before .before .before .before .before .before in record { long = s .pre .long; below = omega (arith, s .pre .range .used, highest-below _ _ _ _ (sym (c .before .before .before .before .highest .ensures) ∙ c .before .before .found .given .1)) }
+undo-at-requires c κs =
+    let s = c .before .before .before .before .before .before .before in
+    let e = sym (c .before .before .before .before .highest .ensures) ∙ c .before .before .found .given .1 in
+    record { long = s .pre .long; below = omega (arith, s .pre .range .used, highest-below _ _ _ _ e) }
 
 with-undo-requires : tie.Need-with-undo-requires
 with-undo-requires c κs = search needs
@@ -30,7 +33,13 @@ same-length c = search needs
 
 returns : tie.Need-returns
 unfolding scopesUndone
-returns c = rw (← c .before .before .before .before .before .before .before .before .highest .ensures, c .before .before .before .before .before .before .found .given .1, c .before .before .before .undo-at .ensures, c .with-undo .ensures)
+returns c =
+    rw (
+      ← c .before .before .before .before .before .before .before .before .highest .ensures,
+      c .before .before .before .before .before .before .found .given .1,
+      c .before .before .before .undo-at .ensures,
+      c .with-undo .ensures,
+    )
 
 same-length-2 : tie.Need-same-length-2
 same-length-2 c = search needs

@@ -14,7 +14,11 @@ enum-known-row-2 : tie.Need-enum-known-row-2
 enum-known-row-2 c = search needs
 
 after-change-requires : tie.Need-after-change-requires
-after-change-requires c κs = record { ready = c .before .before .before .before .before .pre .ready; entry = rw (c .before .before .row2 .given .1) at (c .before .before .before .before .before .pre .takes) }
+after-change-requires c κs =
+    record {
+      ready = c .before .before .before .before .before .pre .ready;
+      entry = rw (c .before .before .row2 .given .1) at (c .before .before .before .before .before .pre .takes);
+    }
 
 enum-known-row-3 : tie.Need-enum-known-row-3
 enum-known-row-3 c = search needs

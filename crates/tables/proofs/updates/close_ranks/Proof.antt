@@ -1,4 +1,4 @@
--- `tables::updates::close_ranks` meets its contract. Assumes nothing.
+-- `tables::updates::close_ranks` meets its contract. The loop's invariant: the entries kept, and those left that another visit holds, are all that another visit holds. Assumes nothing.
 use Prim.Native.Nat.{_-_, _≤_}
 use mathlib.Core.Path.{_≡_, refl, sym, _∙_, ap}
 use native.Mathlib.Omega.{arith}
@@ -13,7 +13,9 @@ use Rattle.tables.proofs.updates.close_ranks.Statement.{statement}
 use Rattle.tables.proofs.updates.close_ranks.Tie as tie
 
 abbrev Inv-loop : tie.InvT-loop
-Inv-loop t₀ used v kept₀ i₀ t kept i = (i ≤ used) × (kept ≤ i) × (length t ≡ length t₀) × (ranks (heldByOther (v .0)) used kept i (entries t) ≡ leftBy used (v .0) (entries t₀))
+Inv-loop t₀ used v kept₀ i₀ t kept i =
+    let p = heldByOther (v .0) in
+    (i ≤ used) × (kept ≤ i) × (length t ≡ length t₀) × (ranks p used kept i (entries t) ≡ leftBy used (v .0) (entries t₀))
 
 abbrev μ-loop : tie.MeasureT-loop
 μ-loop t₀ used v kept₀ i₀ t kept i = used - i
@@ -22,7 +24,8 @@ loop-holds : tie.Need-loop-holds Inv-loop μ-loop
 loop-holds c = (omega arith, omega arith, refl, refl)
 
 move-entry-requires : tie.Need-move-entry-requires Inv-loop μ-loop
-move-entry-requires c κs = let s = c .before .before .before .before in
+move-entry-requires c κs =
+    let s = c .before .before .before .before in
     let l = c .before .before .loop in
     record { long = l .inv .2 ∙ s .pre .long; before = l .inv .1; below = omega (arith, s .pre .within) }
 
@@ -33,25 +36,29 @@ loop-less : tie.Need-loop-less Inv-loop μ-loop
 loop-less c = omega arith
 
 loop-again : tie.Need-loop-again Inv-loop μ-loop
-loop-again c = let s = c .before .before .before .before .before .before .before in
+loop-again c =
+    let s = c .before .before .before .before .before .before .before in
     let l = c .before .before .before .before .before .loop in
     let m = c .before .before .move-entry in
+    let v = s .args .v .0 in
     let x : Scopes = scopesIn (l .kept) (l .t) in
     let w : s .args .used ≤ length (entries (l .t)) = rw entries-length (s .pre .within) in
-    let u : Move (s .args .v .0) (s .args .used) (l .i) x (scopesIn (m .result) (m .last .0)) = rw (m .ensures) (move (s .args .v .0) (s .args .used) (l .i) x (l .inv .1) (c .before .before .before .before .loop-test .taken) w) in
-    (omega arith, u .few, m .kept .0 ∙ l .inv .2, u .left ∙ l .inv .3)
+    let turn : Move v (s .args .used) (l .i) x (scopesIn (m .result) (m .last .0)) = rw (m .ensures) (move v (s .args .used) (l .i) x (l .inv .1) (c .before .before .before .before .loop-test .taken) w) in
+    (omega arith, turn .few, m .kept .0 ∙ l .inv .2, turn .left ∙ l .inv .3)
 
 same-length : tie.Need-same-length Inv-loop μ-loop
 same-length c = c .before .loop .inv .2
 
 returns : tie.Need-returns Inv-loop μ-loop
-returns c = let s = c .before .before .before in
+returns c =
+    let s = c .before .before .before in
     let l = c .before .loop in
-    let e = sym (ranks-end (heldByOther (s .args .v .0)) (s .args .used) (l .kept) (l .i) (entries (l .t)) (c .loop-test .left)) ∙ l .inv .3 in
-    let w : l .kept ≤ length (entries (l .t)) = rw entries-length (omega (arith, s .pre .within)) in
+    let ss = entries (l .t) in
+    let e = sym (ranks-end (heldByOther (s .args .v .0)) (s .args .used) (l .kept) (l .i) ss (c .loop-test .left)) ∙ l .inv .3 in
+    let w : l .kept ≤ length ss = rw entries-length (omega (arith, s .pre .within)) in
     record {
       kept = e;
-      count = sym (length-take-le (l .kept) (entries (l .t)) w) ∙ ap length e;
+      count = sym (length-take-le (l .kept) ss w) ∙ ap length e;
       within = omega (arith, s .pre .within);
     }
 

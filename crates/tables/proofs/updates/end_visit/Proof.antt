@@ -15,7 +15,9 @@ same-length c = search needs
 
 returns : tie.Need-returns
 unfolding scopesEnded
-returns c = let e = c .before .before .before .before .before .before .close-ranks .ensures in rw (c .before .before .clear-from .ensures, e .kept, e .count)
+returns c =
+    let e = c .before .before .before .before .before .before .close-ranks .ensures in
+    rw (c .before .before .clear-from .ensures, e .kept, e .count)
 
 pub end-visit-spec : {M : Type 1} → statement M
 end-visit-spec = tie.close (tie.spec close-ranks-requires clear-from-requires same-length returns)

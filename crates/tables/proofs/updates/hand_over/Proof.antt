@@ -1,4 +1,4 @@
--- `tables::updates::hand_over` meets its contract. Assumes nothing.
+-- `tables::updates::hand_over` meets its contract. The loop's invariant: the entries passed are handed on, the others are as they were. Assumes nothing.
 use Prim.Native.Nat.{_-_, _≤_, _<_}
 use mathlib.Core.Path.{_≡_, refl, _∙_}
 use native.Mathlib.Omega.{arith}
@@ -21,7 +21,8 @@ loop-holds : tie.Need-loop-holds Inv-loop μ-loop
 loop-holds c = (omega arith, refl, refl)
 
 hand-entry-requires : tie.Need-hand-entry-requires Inv-loop μ-loop
-hand-entry-requires c κs = let s = c .before .before .before .before in
+hand-entry-requires c κs =
+    let s = c .before .before .before .before in
     let l = c .before .before .loop in
     record { long = l .inv .1 ∙ s .pre .long; below = omega (arith, s .pre .within) }
 
@@ -32,18 +33,22 @@ loop-less : tie.Need-loop-less Inv-loop μ-loop
 loop-less c = omega arith
 
 loop-again : tie.Need-loop-again Inv-loop μ-loop
-loop-again c = let s = c .before .before .before .before .before .before .before in
+loop-again c =
+    let s = c .before .before .before .before .before .before .before in
     let l = c .before .before .before .before .before .loop in
     let m = c .before .before .hand-entry in
-    let h : l .i < length (entries (s .args .t .now)) = rw entries-length (omega (arith, s .pre .within, c .before .before .before .before .loop-test .taken)) in
-    (omega arith, m .kept .0 ∙ l .inv .1, rw (m .ensures, l .inv .2) (mapped-next (handedOn (s .args .g .0) (s .args .r .0) (s .args .c .0)) (l .i) (entries (s .args .t .now)) unused h))
+    let ss = entries (s .args .t .now) in
+    let h : l .i < length ss = rw entries-length (omega (arith, s .pre .within, c .before .before .before .before .loop-test .taken)) in
+    let turn = mapped-next (handedOn (s .args .g .0) (s .args .r .0) (s .args .c .0)) (l .i) ss unused h in
+    (omega arith, m .kept .0 ∙ l .inv .1, rw (m .ensures, l .inv .2) turn)
 
 same-length : tie.Need-same-length Inv-loop μ-loop
 same-length c = c .before .loop .inv .1
 
 returns : tie.Need-returns Inv-loop μ-loop
 unfolding scopesHanded
-returns c = let s = c .before .before .before in
+returns c =
+    let s = c .before .before .before in
     let l = c .before .loop in
     let e : l .i ≡ s .args .used = omega arith in
     rw (l .inv .2, e)

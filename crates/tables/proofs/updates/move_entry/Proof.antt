@@ -27,7 +27,13 @@ same-length-2 c = search needs
 
 returns-2 : tie.Need-returns-2
 unfolding movedAt
-returns-2 c = rw (← c .before .before .before .before .before .before .before .entry-at .ensures, ne-eqb _ _ (c .before .before .before .before .if1 .left), c .before .before .put-entry .ensures, add-one)
+returns-2 c =
+    rw (
+      ← c .before .before .before .before .before .before .before .entry-at .ensures,
+      ne-eqb _ _ (c .before .before .before .before .if1 .left),
+      c .before .before .put-entry .ensures,
+      add-one,
+    )
 
 pub move-entry-spec : {M : Type 1} → statement M
 move-entry-spec =

@@ -16,7 +16,12 @@ same-length : tie.Need-same-length
 same-length c = search needs
 
 returns : tie.Need-returns
-returns c = rw (c .before .before .put-entry .ensures, c .before .before .before .lowered .ensures, ← c .before .before .before .before .before .entry-at .ensures)
+returns c =
+    rw (
+      c .before .before .put-entry .ensures,
+      c .before .before .before .lowered .ensures,
+      ← c .before .before .before .before .before .entry-at .ensures,
+    )
 
 pub undo-at-spec : {M : Type 1} → statement M
 undo-at-spec =

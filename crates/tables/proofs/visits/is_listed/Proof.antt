@@ -1,5 +1,6 @@
--- `tables::visits::is_listed` meets its contract. Assumes nothing.
-use Prim.Native.Nat.{_-_, _≤_}
+-- `tables::visits::is_listed` meets its contract. The loop's invariant: the visit is among all places in use if it is among those left. Assumes nothing.
+use Prim.Native.Nat.{_+_, _-_, _≤_}
+use mathlib.Core.Bool.{_||_}
 use mathlib.Core.Path.{_≡_, refl, sym, _∙_}
 use native.Mathlib.Omega.{arith}
 use lib.ListN.{length-map, length, take}
@@ -31,12 +32,22 @@ array-copy-out-is-of c = omega arith
 is-of-requires : tie.Need-is-of-requires Inv-loop μ-loop
 is-of-requires c κs = tt
 
+-- a turn: the place's test, and what is left after it
+turn : (c : tie.After-is-of Inv-loop μ-loop) →
+    let s = c .before .before .before .before .before in
+    let l = c .before .before .before .loop in
+    let p = isOf (s .args .v .0) in
+    any p (left (s .args .t .count) (l .i) (s .args .t .active)) ≡ c .is-of .result || any p (left (s .args .t .count) (l .i + 1) (s .args .t .active))
+turn c =
+    let s = c .before .before .before .before .before in
+    let l = c .before .before .before .loop in
+    let n = s .args .t .count in
+    let w : n ≤ length (s .args .t .active) = omega (arith, long s, s .pre .count) in
+    rw (left-next n (l .i) (s .args .t .active) vacant (c .before .before .loop-test .taken) w, ← c .is-of .ensures)
+
 returns : tie.Need-returns Inv-loop μ-loop
 unfolding isListed
-returns c = let s = c .before .before .before .before .before .before in
-    let l = c .before .before .before .before .loop in
-    let step = left-next (s .args .t .count) (l .i) (s .args .t .active) vacant (c .before .before .before .loop-test .taken) (omega (arith, long s, s .pre .count)) in
-    sym (l .inv .1 ∙ rw (step, ← c .before .is-of .ensures, c .if1 .taken))
+returns c = sym (c .before .before .before .before .loop .inv .1 ∙ turn (c .before) ∙ rw (c .if1 .taken))
 
 add-i : tie.Need-add-i Inv-loop μ-loop
 add-i c = omega arith
@@ -45,14 +56,12 @@ loop-less : tie.Need-loop-less Inv-loop μ-loop
 loop-less c = omega arith
 
 loop-again : tie.Need-loop-again Inv-loop μ-loop
-loop-again c = let s = c .before .before .before .before .before .before in
-    let l = c .before .before .before .before .loop in
-    let step = left-next (s .args .t .count) (l .i) (s .args .t .active) vacant (c .before .before .before .loop-test .taken) (omega (arith, long s, s .pre .count)) in
-    (omega arith, l .inv .1 ∙ rw (step, ← c .before .is-of .ensures, c .if1 .left))
+loop-again c = (omega arith, c .before .before .before .before .loop .inv .1 ∙ turn (c .before) ∙ rw (c .if1 .left))
 
 returns-2 : tie.Need-returns-2 Inv-loop μ-loop
 unfolding isListed
-returns-2 c = let l = c .before .loop in sym (l .inv .1 ∙ rw (left-end _ (l .i) _ (c .loop-test .left)))
+returns-2 c =
+    let l = c .before .loop in sym (l .inv .1 ∙ rw (left-end _ (l .i) _ (c .loop-test .left)))
 
 pub is-listed-spec : {M : Type 1} → statement M
 is-listed-spec =

@@ -1,9 +1,9 @@
--- `tables::visits::vacate` meets its contract. Assumes nothing.
-use Prim.Native.Nat.{_-_, _≤_, _<_}
+-- `tables::visits::vacate` meets its contract. The loop's invariant: filled up from here, the array is what it is filled up from the last place in use. Assumes nothing.
+use Prim.Native.Nat.{_-_, _≤_}
 use mathlib.Core.Path.{_≡_, refl, sym, _∙_}
 use native.Mathlib.Omega.{arith}
 use lib.Seq.{length-take-le}
-use lib.ListN.{length-set, length-map, length, take}
+use lib.ListN.{length-set, length-map, length}
 use Rattle.tables.specs.Visits.{vacated, vacant}
 use Rattle.tables.proofs.Loops.{filled, filled-next, filled-end}
 use Rattle.tables.proofs.visits.vacate.Statement.{statement}
@@ -35,18 +35,21 @@ loop-less : tie.Need-loop-less Inv-loop μ-loop
 loop-less c = omega arith
 
 loop-again : tie.Need-loop-again Inv-loop μ-loop
-loop-again c = let l = c .before .loop in
-    let h : l .i < 16 = c .loop-test .taken in
-    (omega arith, omega arith, simp length-set (l .inv .2), filled-next 16 (l .i) (l .active) vacant h (omega arith) ∙ l .inv .3)
+loop-again c =
+    let l = c .before .loop in
+    let turn = filled-next 16 (l .i) (l .active) vacant (c .loop-test .taken) (omega arith) in
+    (omega arith, omega arith, simp length-set (l .inv .2), turn ∙ l .inv .3)
 
 returns : tie.Need-returns Inv-loop μ-loop
 unfolding vacated
-returns c = let s = c .before .before .before in
+returns c =
+    let s = c .before .before .before in
     let l = c .before .loop in
-    let e : l .active ≡ filled 16 vacant (s .args .t .count) (s .args .t .active)
-    = sym (filled-end 16 (l .i) (l .active) vacant (omega arith) (l .inv .2) (l .inv .1)) ∙ l .inv .3 in
-    let k : length (take (s .args .t .count) (s .args .t .active)) ≡ s .args .t .count = length-take-le (s .args .t .count) (s .args .t .active) (omega (arith, long s, s .pre)) in
-    rw (e, k)
+    let n = s .args .t .count in
+    let full = filled-end 16 (l .i) (l .active) vacant (c .loop-test .left) (l .inv .2) (l .inv .1) in
+    let e : l .active ≡ filled 16 vacant n (s .args .t .active) = sym full ∙ l .inv .3 in
+    let w : n ≤ length (s .args .t .active) = omega (arith, long s, s .pre) in
+    rw (e, length-take-le n (s .args .t .active) w)
 
 pub vacate-spec : {M : Type 1} → statement M
 vacate-spec =

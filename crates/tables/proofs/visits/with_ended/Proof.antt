@@ -12,7 +12,8 @@ vacate-requires c κs = c .without .ensures .room
 
 returns : tie.Need-returns
 unfolding vacated withEnded
-returns c = let e = c .before .without .ensures in rw (c .vacate .ensures, e .kept, e .begun, e .count)
+returns c =
+    let e = c .before .without .ensures in rw (c .vacate .ensures, e .kept, e .begun, e .count)
 
 pub with-ended-spec : {M : Type 1} → statement M
 with-ended-spec = tie.close (tie.spec without-requires vacate-requires returns)

@@ -1,4 +1,4 @@
--- `tables::visits::with_undo` meets its contract. Assumes nothing.
+-- `tables::visits::with_undo` meets its contract. The loop's invariant: the places passed are marked, the others are as they were. Assumes nothing.
 use Prim.Native.Nat.{_-_, _≤_, _<_}
 use mathlib.Core.Path.{_≡_, refl, sym, _∙_}
 use native.Mathlib.Omega.{arith}
@@ -43,14 +43,16 @@ loop-less : tie.Need-loop-less Inv-loop μ-loop
 loop-less c = omega arith
 
 loop-again : tie.Need-loop-again Inv-loop μ-loop
-loop-again c = let s = c .before .before .before .before .before in
+loop-again c =
+    let s = c .before .before .before .before .before in
     let l = c .before .before .before .loop in
     let h : l .i < length (s .args .t .active) = omega (arith, long s, s .pre .count, c .before .before .loop-test .taken) in
     (omega arith, rw (c .mark .ensures, l .inv .1) (mapped-next (marked (s .args .v .0)) (l .i) (s .args .t .active) vacant h))
 
 returns : tie.Need-returns Inv-loop μ-loop
 unfolding withUndo
-returns c = let s = c .before .before .before in
+returns c =
+    let s = c .before .before .before in
     let l = c .before .loop in
     let e : l .i ≡ s .args .t .count = omega arith in
     rw (l .inv .1, e)

@@ -1,4 +1,4 @@
--- `tables::visits::without` meets its contract. Assumes nothing.
+-- `tables::visits::without` meets its contract. The loop's invariant: the places kept, and those left without the visit, are all places without the visit. Assumes nothing.
 use Prim.Native.Nat.{_-_, _≤_}
 use mathlib.Core.Path.{_≡_, refl, sym, _∙_, ap}
 use native.Mathlib.Omega.{arith}
@@ -11,7 +11,13 @@ use Rattle.tables.proofs.visits.without.Statement.{statement}
 use Rattle.tables.proofs.visits.without.Tie as tie
 
 abbrev Inv-loop : tie.InvT-loop
-Inv-loop v count kept₀ i₀ kept i = (i ≤ count) × (kept .count ≤ i) × (kept .begun ≡ kept₀ .begun) × (length (kept .active) ≡ 16) × (ranks (stays (v .0)) count (kept .count) i (kept .active) ≡ keep (stays (v .0)) (take count (kept₀ .active)))
+Inv-loop v count kept₀ i₀ kept i =
+    let p = stays (v .0) in
+    (i ≤ count)
+    × (kept .count ≤ i)
+    × (kept .begun ≡ kept₀ .begun)
+    × (length (kept .active) ≡ 16)
+    × (ranks p count (kept .count) i (kept .active) ≡ keep p (take count (kept₀ .active)))
 
 abbrev μ-loop : tie.MeasureT-loop
 μ-loop v count kept₀ i₀ kept i = count - i
@@ -33,19 +39,23 @@ loop-less : tie.Need-loop-less Inv-loop μ-loop
 loop-less c = omega arith
 
 loop-again : tie.Need-loop-again Inv-loop μ-loop
-loop-again c = let s = c .before .before .before .before in
+loop-again c =
+    let s = c .before .before .before .before in
     let l = c .before .before .loop in
     let u = turn (s .args .v .0) (s .args .t .count) (l .i) (l .kept) (l .inv .1) (c .before .loop-test .taken) (s .pre .count) (l .inv .3) in
     rw (c .kept-at .ensures) (omega arith, u .few, u .begun ∙ l .inv .2, u .long, u .left ∙ l .inv .4)
 
 returns : tie.Need-returns Inv-loop μ-loop
-returns c = let s = c .before .before .before in
+returns c =
+    let s = c .before .before .before in
     let l = c .before .loop in
-    let e = sym (ranks-end (stays (s .args .v .0)) (s .args .t .count) (l .kept .count) (l .i) (l .kept .active) (c .loop-test .left)) ∙ l .inv .4 in
+    let k = l .kept in
+    let e = sym (ranks-end (stays (s .args .v .0)) (s .args .t .count) (k .count) (l .i) (k .active) (c .loop-test .left)) ∙ l .inv .4 in
+    let w : k .count ≤ length (k .active) = omega (arith, l .inv .3, s .pre .count) in
     record {
       begun = l .inv .2;
       kept = e;
-      count = sym (length-take-le (l .kept .count) (l .kept .active) (omega (arith, l .inv .3, s .pre .count))) ∙ ap length e;
+      count = sym (length-take-le (k .count) (k .active) w) ∙ ap length e;
       room = omega (arith, s .pre .count);
     }
 
