@@ -1,0 +1,226 @@
+//! The two implementations as `Store`s. A further one, such as a static library with C functions over
+//! byte buffers, is written like `FastStore`: a `Host` for the buffers, and the state that the
+//! functions pass around.
+
+use crate::fast::{self, Fuse, Lent, Phase, Ram};
+use crate::paper::{self, Paper, Row};
+use crate::prng::Rng;
+use crate::store::{noise, take_over, with_length};
+use crate::store::{Answer, Buffer, Call, Host, Scope, Store, RIGHT};
+
+impl Store for Paper {
+    fn name(&self) -> &'static str {
+        "paper"
+    }
+
+    fn format(&mut self, cells: &[i32]) -> Answer {
+        let outcome = Paper::format(self, cells);
+        self.lent = RIGHT;
+        paper::answer(outcome)
+    }
+
+    fn open(&mut self, fuse: Option<u32>) -> Answer {
+        let outcome = Paper::open(self, fuse);
+        self.lent = RIGHT;
+        paper::answer(outcome)
+    }
+
+    fn call(&mut self, call: Call) -> Answer {
+        let outcome = match call {
+            Call::Begin => self.begin(),
+            Call::Change { visit, cell, amount } => self.change(visit, cell, amount),
+            Call::HandOver { giver, receiver, cell } => self.hand_over(giver, receiver, cell),
+            Call::Commit { visit } => self.commit(visit),
+            Call::Abort { visit } => self.abort(visit),
+            Call::Force => self.force(),
+            Call::FlushPage { page } => self.flush_page(page),
+            Call::Read { cell } => self.read(cell),
+        };
+        self.lent = RIGHT;
+        paper::answer(outcome)
+    }
+
+    fn log(&self) -> &[u8] {
+        &self.log
+    }
+
+    fn charts(&self) -> &[u8] {
+        &self.charts
+    }
+
+    fn copy(&self) -> &[u8] {
+        &self.copy
+    }
+
+    fn scopes(&self) -> Vec<Scope> {
+        if self.open {
+            self.ledger().scopes()
+        } else {
+            Vec::new()
+        }
+    }
+
+    fn log_mut(&mut self) -> &mut [u8] {
+        &mut self.log
+    }
+
+    fn charts_mut(&mut self) -> &mut [u8] {
+        &mut self.charts
+    }
+
+    fn lend(&mut self, buffer: Buffer, length: usize) {
+        self.lent.set(buffer, length);
+    }
+
+    fn scramble(&mut self, seed: u64) {
+        noise(seed, &mut self.copy);
+        let mut rng = Rng::new(seed ^ 1);
+        let mut bytes = [0; 16];
+        self.tail.clear();
+        for _ in 0..rng.below(65) {
+            rng.fill(&mut bytes);
+            self.tail.push(Row::read(&bytes));
+        }
+        self.fuse = Some(rng.below(100) as u32);
+        self.open = rng.chance(1, 2);
+    }
+}
+
+pub struct FastStore {
+    host: Host,
+    scopes: Vec<Scope>,
+    ram: Ram,
+}
+
+impl FastStore {
+    pub fn new() -> FastStore {
+        FastStore { host: Host::new(), scopes: vec![Scope::default(); RIGHT.scopes], ram: Ram::CLOSED }
+    }
+
+    /// Makes one call with the buffers lent as the host was told.
+    fn with_lent(&mut self, call: impl FnOnce(&mut Ram, &mut Lent) -> Answer) -> Answer {
+        let (ram, table) = (&mut self.ram, &mut self.scopes);
+        self.host.lend(|log, charts, copy, entries| {
+            let mut scopes = with_length(table, entries);
+            let answer = call(ram, &mut Lent { log, charts, copy, scopes: &mut scopes });
+            take_over(table, &scopes);
+            answer
+        })
+    }
+}
+
+impl Default for FastStore {
+    fn default() -> FastStore {
+        FastStore::new()
+    }
+}
+
+impl Store for FastStore {
+    fn name(&self) -> &'static str {
+        "fast"
+    }
+
+    fn format(&mut self, cells: &[i32]) -> Answer {
+        self.with_lent(|ram, lent| fast::format(ram, lent, cells))
+    }
+
+    fn open(&mut self, fuse: Option<u32>) -> Answer {
+        let fuse = fuse.map_or(Fuse::Unlimited, Fuse::Left);
+        self.with_lent(|ram, lent| fast::open(ram, lent, fuse))
+    }
+
+    fn call(&mut self, call: Call) -> Answer {
+        self.with_lent(|ram, lent| match call {
+            Call::Begin => fast::begin(ram, lent),
+            Call::Change { visit, cell, amount } => fast::change(ram, lent, visit, cell, amount),
+            Call::HandOver { giver, receiver, cell } => {
+                fast::hand_over(ram, lent, giver, receiver, cell)
+            }
+            Call::Commit { visit } => fast::commit(ram, lent, visit),
+            Call::Abort { visit } => fast::abort(ram, lent, visit),
+            Call::Force => fast::force(ram, lent),
+            Call::FlushPage { page } => fast::flush_page(ram, lent, page),
+            Call::Read { cell } => fast::read(ram, lent, cell),
+        })
+    }
+
+    fn log(&self) -> &[u8] {
+        &self.host.log
+    }
+
+    fn charts(&self) -> &[u8] {
+        &self.host.charts
+    }
+
+    fn copy(&self) -> &[u8] {
+        &self.host.copy
+    }
+
+    fn scopes(&self) -> Vec<Scope> {
+        self.scopes.clone()
+    }
+
+    fn log_mut(&mut self) -> &mut [u8] {
+        &mut self.host.log
+    }
+
+    fn charts_mut(&mut self) -> &mut [u8] {
+        &mut self.host.charts
+    }
+
+    fn lend(&mut self, buffer: Buffer, length: usize) {
+        self.host.lengths.set(buffer, length);
+    }
+
+    /// Most of the state keeps within its bounds, so that calls go far into it; one thing does not.
+    fn scramble(&mut self, seed: u64) {
+        noise(seed, &mut self.host.copy);
+        let rng = &mut Rng::new(seed ^ 1);
+        let wild = rng.below(10);
+        // Sometimes few visits hold much more than the counts tell.
+        let (visits, count) = rng.pick(&[(17, 2), (17, 2), (1, 0)]);
+        let mut number = |thing: usize, bound: u16| {
+            let any = rng.draw() as u16;
+            match thing == wild {
+                true => rng.pick(&[bound + 1, 2 * bound, u16::MAX, any]),
+                false => any % (bound + 1),
+            }
+        };
+        self.ram.stored = number(0, 4_096);
+        if number(10, 1) == 1 {
+            // As good as full.
+            self.ram.stored |= 4_095 - 63;
+        }
+        self.ram.waiting = number(1, 64);
+        self.ram.tables.begun = number(2, 255);
+        self.ram.tables.active_count = number(3, 16);
+        self.ram.tables.scope_count = number(4, 64);
+        for visit in &mut self.ram.tables.active {
+            *visit = number(5, visits);
+        }
+        for scope in &mut self.scopes {
+            *scope = Scope {
+                maker: number(5, visits),
+                holder: number(5, visits),
+                cell: number(9, 255) as u8,
+                first: number(6, 200),
+                last: number(7, 4_096),
+                handed: number(9, 1) == 1,
+                count: number(8, count),
+            };
+        }
+        for row in self.ram.tail.chunks_exact_mut(16) {
+            rng.fill(row);
+            row[0] = rng.below(8) as u8;
+            row[1] = rng.below(18) as u8;
+        }
+        self.ram.fuse = match rng.below(3) {
+            0 => Fuse::Left(rng.below(200) as u32),
+            _ => Fuse::Unlimited,
+        };
+        self.ram.phase = match rng.below(6) {
+            0 => Phase::Closed,
+            _ => Phase::Open,
+        };
+    }
+}

@@ -1,0 +1,332 @@
+//! One case: all stores take the same steps, and after each of them their answers, logs, charts,
+//! copies and scopes are compared with the paper's.
+
+mod careless;
+
+use crate::cover::Cover;
+use crate::demands::Demands;
+use crate::observe::{self, Moment, Opening};
+use crate::paper::{Ledger, Paper};
+use crate::report;
+use crate::steps::Step;
+use crate::store::{Answer, Call, Lengths, Scope, Store, RIGHT};
+use std::panic::{catch_unwind, AssertUnwindSafe};
+
+/// Makes a store of an implementation that is compared with the paper.
+pub type Maker = fn() -> Box<dyn Store>;
+
+/// What went wrong, at which step.
+#[derive(Debug)]
+pub struct Difference {
+    pub step: usize,
+    pub text: String,
+}
+
+pub type Outcome<T> = Result<T, Difference>;
+
+pub struct Arena<'a> {
+    pub paper: Paper,
+    others: Vec<Box<dyn Store>>,
+    /// Whether the host has kept to 01 since the last opening or format: each call gets what the call
+    /// before it left. If not, only an opening or a format is compared.
+    sound: bool,
+    /// Set for a formatted store whose memory nobody else writes.
+    demands: Option<Demands>,
+    lent: Lengths,
+    moment: Moment,
+    steps: Vec<Step>,
+    calls: u64,
+    cover: &'a mut Cover,
+}
+
+/// The answer of a step that calls nothing, or of a call that is left out.
+const NO_CALL: Answer = Answer { number: 0, value: 0 };
+
+impl<'a> Arena<'a> {
+    pub fn new(makers: &[Maker], cover: &'a mut Cover) -> Arena<'a> {
+        Arena {
+            paper: Paper::new(),
+            others: makers.iter().map(|make| make()).collect(),
+            sound: true,
+            demands: Some(Demands::new(&[0; 224])),
+            lent: RIGHT,
+            moment: Moment::default(),
+            steps: Vec::new(),
+            calls: 0,
+            cover,
+        }
+    }
+
+    /// The rows of the paper's log and tail; no rows if it is closed.
+    pub fn ledger(&self) -> &Ledger {
+        &self.moment.ledger
+    }
+
+    pub fn is_open(&self) -> bool {
+        self.paper.open
+    }
+
+    pub fn calls(&self) -> u64 {
+        self.calls
+    }
+
+    pub fn into_steps(self) -> Vec<Step> {
+        self.steps
+    }
+
+    pub fn cover(&mut self) -> &mut Cover {
+        self.cover
+    }
+
+    /// A difference at the present step.
+    pub fn differs<T>(&self, text: impl Into<String>) -> Outcome<T> {
+        Err(Difference { step: self.steps.len(), text: text.into() })
+    }
+
+    pub fn steps(&mut self, steps: &[Step]) -> Outcome<()> {
+        for step in steps {
+            self.step(step.clone())?;
+        }
+        Ok(())
+    }
+
+    /// Takes the step and expects this answer.
+    pub fn expect(&mut self, step: Step, number: u8, value: i64) -> Outcome<()> {
+        let expected = Answer { number, value };
+        let answer = self.step(step)?;
+        if answer != expected {
+            let (expected, answer) = (report::answer(expected), report::answer(answer));
+            return self.differs(format!("document 01 has {expected}, the stores answer {answer}"));
+        }
+        Ok(())
+    }
+
+    /// Takes one step with all stores; gives the answer.
+    pub fn step(&mut self, step: Step) -> Outcome<Answer> {
+        self.steps.push(step.clone());
+        match step {
+            Step::Format(cells) => self.format(&cells),
+            Step::Open(fuse) => self.open(fuse),
+            Step::Call(call) if self.sound => self.call(call),
+            Step::Call(_) => Ok(NO_CALL),
+            Step::Lend(buffer, length) => {
+                self.lent.set(buffer, length);
+                self.for_all(|store| store.lend(buffer, length));
+                Ok(NO_CALL)
+            }
+            Step::Scramble(seed) => {
+                self.sound = false;
+                self.for_all(|store| store.scramble(seed));
+                Ok(NO_CALL)
+            }
+            Step::WriteLog(rows) => {
+                self.host_writes(|store| {
+                    let log = store.log_mut();
+                    log.fill(0);
+                    for (row, bytes) in log.chunks_exact_mut(16).zip(&rows) {
+                        row.copy_from_slice(bytes);
+                    }
+                });
+                Ok(NO_CALL)
+            }
+            Step::WriteLogByte(at, byte) => {
+                self.host_writes(|store| store.log_mut()[at] = byte);
+                Ok(NO_CALL)
+            }
+            Step::WriteCharts(at, bytes) => {
+                self.host_writes(|store| {
+                    store.charts_mut()[at..at + bytes.len()].copy_from_slice(&bytes)
+                });
+                Ok(NO_CALL)
+            }
+            Step::Garbage(seed, calls) => {
+                self.careless_host(seed, &calls)?;
+                Ok(NO_CALL)
+            }
+        }
+    }
+
+    fn for_all(&mut self, act: impl Fn(&mut dyn Store)) {
+        act(&mut self.paper);
+        for other in &mut self.others {
+            act(other.as_mut());
+        }
+    }
+
+    fn host_writes(&mut self, write: impl Fn(&mut dyn Store)) {
+        self.sound = false;
+        self.demands = None;
+        self.for_all(write);
+    }
+
+    fn format(&mut self, cells: &[i32]) -> Outcome<Answer> {
+        let (lent, sound) = (self.lent, self.sound);
+        let answer = self.compared(|store| store.format(cells))?;
+        observe::format(self.cover, cells, lent, sound, answer);
+        if answer.number == 0 {
+            self.sound = true;
+            self.demands = Some(Demands::new(cells));
+        }
+        self.after()?;
+        Ok(answer)
+    }
+
+    fn open(&mut self, fuse: Option<u32>) -> Outcome<Answer> {
+        let (lent, sound) = (self.lent, self.sound);
+        let stored = self.paper.stored_rows();
+        let answer = self.compared(|store| store.open(fuse))?;
+        self.sound |= answer.number != 1;
+        let before = self.after()?;
+        let opening = Opening {
+            lent,
+            sound,
+            answer,
+            before: &before,
+            stored,
+            log: &self.paper.log,
+            charts: &self.paper.charts,
+        };
+        observe::open(self.cover, &opening);
+        if let Some(demands) = &self.demands {
+            // "An opening whose lent buffers have 01's lengths and whose power holds ends ready."
+            let kept = match answer.number {
+                0 => demands.after_ready(&self.paper.log, &self.paper.copy),
+                1 if lent != RIGHT => Ok(()),
+                5 if fuse.is_some() => Ok(()),
+                number => Err(format!("the opening answers {number}")),
+            };
+            self.demanded(kept)?;
+        }
+        Ok(answer)
+    }
+
+    fn call(&mut self, call: Call) -> Outcome<Answer> {
+        let lent = self.lent;
+        let answer = self.compared(|store| store.call(call))?;
+        let before = self.after()?;
+        observe::call(self.cover, call, lent, answer, &before, &self.moment);
+        if let (Call::Commit { visit }, 0, Some(demands)) = (call, answer.number, &mut self.demands) {
+            let held = before.ledger.changes.iter().filter(|change| change.holder == visit);
+            let rows: Vec<u16> = held.map(|change| change.row).collect();
+            let kept = demands.after_commit(&self.paper.log, visit, answer.value, &rows);
+            self.demanded(kept)?;
+        }
+        Ok(answer)
+    }
+
+    /// After a format, an opening or a call: the rest of the comparison, and a new look at the paper's
+    /// store. Gives what it was before.
+    fn after(&mut self) -> Outcome<Moment> {
+        self.calls += 1;
+        self.lent = RIGHT;
+        let moment = self.look();
+        let before = std::mem::replace(&mut self.moment, moment);
+        if self.sound {
+            self.compare_scopes()?;
+        }
+        if let Some(demands) = &mut self.demands {
+            let kept = demands.after_call(&self.paper.log);
+            self.demanded(kept)?;
+        }
+        Ok(before)
+    }
+
+    fn look(&self) -> Moment {
+        let stored = self.paper.stored_rows();
+        if !self.sound || !self.paper.open {
+            return Moment { stored, ..Moment::default() };
+        }
+        let ledger = self.ledger_now();
+        let scopes = if ledger.rows == self.moment.ledger.rows {
+            self.moment.scopes.clone()
+        } else {
+            ledger.scopes()
+        };
+        let waiting = self.paper.tail.len();
+        Moment { open: true, fuse: self.paper.fuse, stored, waiting, ledger, scopes }
+    }
+
+    /// The paper's ledger. Where rows were only added since the last look, they are added here too.
+    fn ledger_now(&self) -> Ledger {
+        let rows = self.paper.rows();
+        let before = &self.moment.ledger;
+        match rows.strip_prefix(before.rows.as_slice()) {
+            Some(new) => {
+                let mut ledger = before.clone();
+                new.iter().for_each(|row| ledger.add(*row));
+                ledger
+            }
+            None => Ledger::of(&rows),
+        }
+    }
+
+    fn demanded(&self, kept: Result<(), String>) -> Outcome<()> {
+        kept.or_else(|text| self.differs(format!("demand 3 is not met: {text}")))
+    }
+
+    /// Lets every store make the call and compares answers and bytes.
+    fn compared(&mut self, call: impl Fn(&mut dyn Store) -> Answer) -> Outcome<Answer> {
+        let step = self.steps.len();
+        let expected = guarded(step, &mut self.paper, &call)?;
+        for other in &mut self.others {
+            let answer = guarded(step, other.as_mut(), &call)?;
+            if answer != expected {
+                let name = other.name();
+                let (expected, answer) = (report::answer(expected), report::answer(answer));
+                return self.differs(format!("paper answers {expected}, {name} {answer}"));
+            }
+        }
+        self.compare_bytes()?;
+        Ok(expected)
+    }
+
+    fn compare_bytes(&self) -> Outcome<()> {
+        let ours: [(&str, usize, &[u8]); 3] = [
+            ("log, row", 16, &self.paper.log),
+            ("charts, page", 32, &self.paper.charts),
+            ("copy, page", 32, &self.paper.copy),
+        ];
+        for other in &self.others {
+            let theirs = [other.log(), other.charts(), other.copy()];
+            for ((area, size, our), their) in ours.into_iter().zip(theirs) {
+                if our == their {
+                    continue;
+                }
+                let at = (0..our.len()).find(|at| our.get(*at) != their.get(*at)).unwrap_or(our.len());
+                let first = if size == 16 { 1 } else { 0 };
+                let place = format!("{area} {}, byte {}", at / size + first, at % size);
+                let (our, their) = (report::byte(our.get(at)), report::byte(their.get(at)));
+                return self.differs(format!("{place}: paper has {our}, {} {their}", other.name()));
+            }
+        }
+        Ok(())
+    }
+
+    /// "Which entry holds which scope" is free, so the entries in use are compared as a set.
+    fn compare_scopes(&self) -> Outcome<()> {
+        for other in &self.others {
+            let mut scopes = other.scopes();
+            scopes.retain(|scope| *scope != Scope::default());
+            scopes.sort_by_key(|scope| scope.first);
+            if scopes != self.moment.scopes {
+                let ours = &self.moment.scopes;
+                let at = (0..).find(|at| ours.get(*at) != scopes.get(*at)).unwrap_or(0);
+                let (our, their) = (report::scope(ours.get(at)), report::scope(scopes.get(at)));
+                let name = other.name();
+                return self.differs(format!("scopes: paper has {our}; {name} has {their}"));
+            }
+        }
+        Ok(())
+    }
+}
+
+/// Lets a store make a call. A store that panics is a difference, not the end of the comparison.
+fn guarded(
+    step: usize,
+    store: &mut dyn Store,
+    call: &dyn Fn(&mut dyn Store) -> Answer,
+) -> Outcome<Answer> {
+    let name = store.name();
+    catch_unwind(AssertUnwindSafe(|| call(store)))
+        .map_err(|_| Difference { step, text: format!("{name} panics") })
+}

@@ -1,0 +1,96 @@
+//! The cases of the comparison, in parts. Every part makes its cases from a number, the seed, so that
+//! each of them can be made again.
+
+pub mod cuts;
+pub mod damage;
+pub mod document;
+pub mod garbage;
+pub mod limits;
+pub mod rows;
+pub mod runfiles;
+pub mod sessions;
+pub mod short;
+pub mod text;
+pub mod twelve;
+
+use crate::bench::{Bench, Failure};
+
+/// A part of the comparison.
+pub struct Part {
+    pub name: &'static str,
+    pub about: &'static str,
+    /// How many seeds a run takes, and a long run.
+    pub seeds: [u64; 2],
+    /// Plays the cases of one seed.
+    pub play: fn(&mut Bench, u64) -> Result<(), Failure>,
+}
+
+pub const PARTS: [Part; 12] = [
+    Part {
+        name: "document",
+        about: "the cases of document 01, with their answers",
+        seeds: [document::COUNT; 2],
+        play: document::play,
+    },
+    Part {
+        name: "short",
+        about: "every short list of calls of two visits on one cell",
+        seeds: [short::lists(4), short::lists(5)],
+        play: short::play,
+    },
+    Part {
+        name: "sessions",
+        about: "random sessions with cuts, arbitrary RAM and wrong lengths",
+        seeds: [1_500, 25_000],
+        play: sessions::play,
+    },
+    Part {
+        name: "rows",
+        about: "logs made row by row, with undo rows of visits in turns",
+        seeds: [1_500, 16_000],
+        play: rows::play,
+    },
+    Part { name: "damage", about: "damaged logs and pages", seeds: [800, 8_000], play: damage::play },
+    Part {
+        name: "garbage",
+        about: "arbitrary states, tables and buffers",
+        seeds: [600, 6_000],
+        play: garbage::play,
+    },
+    Part {
+        name: "run files",
+        about: "run files, right and wrong",
+        seeds: [1_000, 10_000],
+        play: runfiles::play,
+    },
+    Part {
+        name: "cuts",
+        about: "power failing at every write of calls and openings",
+        seeds: [12, 200],
+        play: cuts::play,
+    },
+    Part {
+        name: "all visits",
+        about: "sessions that use up the visits",
+        seeds: [6, 80],
+        play: limits::all_visits,
+    },
+    Part {
+        name: "all scopes",
+        about: "sessions that use up the scopes",
+        seeds: [60, 800],
+        play: limits::all_scopes,
+    },
+    Part {
+        name: "full rows",
+        about: "logs made row by row until they are full",
+        seeds: [6, 60],
+        play: rows::play_full,
+    },
+    Part {
+        name: "full log",
+        about: "sessions that fill the log",
+        seeds: [2, 20],
+        play: limits::full_log,
+    },
+];

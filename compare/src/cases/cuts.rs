@@ -1,0 +1,80 @@
+//! Power failing at every write. A random session is played once with a fuse that is never used up, to
+//! count its writes; then again with every shorter fuse, followed by openings that are cut themselves.
+
+use super::sessions::{formatted, habits, next_call};
+use crate::arena::{Arena, Outcome};
+use crate::bench::{Bench, Failure};
+use crate::prng::Rng;
+use crate::steps::Step;
+
+/// A fuse that no case uses up.
+const LONG: u32 = 1_000_000;
+
+pub fn play(bench: &mut Bench, seed: u64) -> Result<(), Failure> {
+    let rng = &mut Rng::new(seed);
+    let format = Step::Format(formatted(rng));
+    let mut habits = habits(rng);
+    let mut calls = rng.pick(&[6, 20, 60, 120]);
+    if rng.chance(1, 3) {
+        // Nothing but full tails makes writes, so that begins, changes, hand-overs and aborts are cut.
+        habits.weights = [20, 60, 30, 0, 2, 0, 0, 1];
+        calls = 200;
+    }
+
+    let first = vec![format, Step::Open(Some(LONG))];
+    let (writes, whole) = bench.case(|arena| {
+        arena.steps(&first)?;
+        for _ in 0..calls {
+            let call = next_call(rng, &habits, arena.ledger());
+            arena.step(Step::Call(call))?;
+        }
+        Ok(LONG - arena.paper.fuse.unwrap_or(LONG))
+    })?;
+
+    // The calls are cut at every write, then the opening after them a few times.
+    for left in 0..=writes {
+        let mut cut = whole.clone();
+        cut[1] = Step::Open(Some(left));
+        bench.case(|arena| {
+            steps_until_closed(arena, &cut)?;
+            for _ in 0..rng.below(4) {
+                arena.step(Step::Open(Some(rng.below(6) as u32)))?;
+            }
+            arena.step(Step::Open(None))?;
+            arena.step(Step::Open(Some(0)))?;
+            Ok(())
+        })?;
+    }
+
+    // The opening after the whole session is cut at every write.
+    let (rows, _) = bench.case(|arena| {
+        arena.steps(&whole)?;
+        arena.step(Step::Open(None))
+    })?;
+    for left in 0..=rows.value as u32 {
+        bench.case(|arena| {
+            arena.steps(&whole)?;
+            arena.step(Step::Open(Some(left)))?;
+            let call = next_call(rng, &habits, arena.ledger());
+            arena.step(Step::Call(call))?;
+            arena.step(Step::Open(None))?;
+            Ok(())
+        })?;
+    }
+    Ok(())
+}
+
+/// Takes the steps, but only a few of them once power has failed.
+fn steps_until_closed(arena: &mut Arena, steps: &[Step]) -> Outcome<()> {
+    let (start, calls) = steps.split_at(2);
+    arena.steps(start)?;
+    let mut while_closed = 0;
+    for step in calls {
+        while_closed += usize::from(!arena.is_open());
+        if while_closed > 4 {
+            break;
+        }
+        arena.step(step.clone())?;
+    }
+    Ok(())
+}

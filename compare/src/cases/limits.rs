@@ -1,0 +1,84 @@
+//! Random sessions that go to the limits of document 01: a full log, 255 visits, 64 scopes.
+
+use super::sessions::{formatted, fuse, habits, next_call, session, work, Habits};
+use crate::bench::{Bench, Failure};
+use crate::prng::Rng;
+use crate::steps::Step;
+
+/// Few visits end, so that the log fills up with changes and their reserve; then the visits take turns
+/// at the last rows, and end.
+pub fn full_log(bench: &mut Bench, seed: u64) -> Result<(), Failure> {
+    let rng = &mut Rng::new(seed);
+    bench.case(|arena| {
+        arena.step(Step::Format(formatted(rng)))?;
+        let mut habits = Habits { odd: 200, visits: rng.pick(&[2, 5, 16]), ..habits(rng) };
+        // So few cells that the scopes suffice.
+        habits.cells.truncate(60 / habits.visits);
+        let (hand_overs, commits) = [(1, 0), (6, 1)][seed as usize % 2];
+        habits.weights = [4, 100, hand_overs, commits, 0, 1, 1, 1];
+        session(rng, arena, &habits, None, 300)?;
+        arena.step(Step::Open(None))?;
+        let mut refused = 0;
+        for _ in 0..3_500 {
+            let call = next_call(rng, &habits, arena.ledger());
+            refused += usize::from(arena.step(Step::Call(call))?.number == 8);
+            if refused == 6 {
+                break;
+            }
+        }
+        habits.weights = [10, 10, 60, 0, 0, 1, 1, 1];
+        work(rng, arena, &habits, 40)?;
+        habits.weights = [10, 30, 30, 3, 3, 1, 1, 1];
+        work(rng, arena, &habits, 60)?;
+        for _ in 0..2 {
+            let fuse = fuse(rng);
+            session(rng, arena, &habits, fuse, 30)?;
+        }
+        arena.step(Step::Open(None))?;
+        Ok(())
+    })?;
+    Ok(())
+}
+
+/// Short visits, one after the other and side by side, until there are no more numbers.
+pub fn all_visits(bench: &mut Bench, seed: u64) -> Result<(), Failure> {
+    let rng = &mut Rng::new(seed);
+    bench.case(|arena| {
+        arena.step(Step::Format(formatted(rng)))?;
+        let mut habits = Habits { weights: [30, 15, 15, 12, 12, 1, 1, 1], visits: 16, ..habits(rng) };
+        for _ in 0..3 {
+            session(rng, arena, &habits, None, 500)?;
+            habits.weights = [30, 10, 10, 6, 6, 1, 1, 1];
+        }
+        for _ in 0..3 {
+            let fuse = fuse(rng);
+            session(rng, arena, &habits, fuse, 60)?;
+        }
+        Ok(())
+    })?;
+    Ok(())
+}
+
+/// Many cells and many hand-overs, so that scopes are always short.
+pub fn all_scopes(bench: &mut Bench, seed: u64) -> Result<(), Failure> {
+    let rng = &mut Rng::new(seed);
+    bench.case(|arena| {
+        arena.step(Step::Format(formatted(rng)))?;
+        let few = rng.pick(&[1, 3, 9]);
+        let mut habits = habits(rng);
+        habits.cells = match rng.below(3) {
+            0 => vec![rng.pick(&[0, 223])],
+            1 => (60..60 + few * 3).collect(),
+            _ => (0..224).collect(),
+        };
+        habits.visits = rng.pick(&[2, 4, 16]);
+        habits.weights = [10, 60, 30, 1, 1, 1, 1, 1];
+        for _ in 0..3 {
+            let fuse = fuse(rng);
+            session(rng, arena, &habits, fuse, 260)?;
+        }
+        arena.step(Step::Open(None))?;
+        Ok(())
+    })?;
+    Ok(())
+}

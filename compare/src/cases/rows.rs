@@ -1,0 +1,212 @@
+//! Logs made row by row. Every row is tried against document 01's row rules; those allowed make the
+//! log, whether or not any calls would have made it, so that undo rows of several visits stand in
+//! turns and visits stay half undone. Rows that are refused are tried at the end of the log.
+
+use super::sessions::{amount, formatted, fuse, habits, held_cell, next_call, Habits};
+use crate::arena::{Arena, Outcome};
+use crate::bench::{Bench, Failure};
+use crate::paper::{self, is_allowed, Ledger, Row};
+use crate::paper::{BEGIN, CHANGE, HAND_OVER, UNDO};
+use crate::prng::Rng;
+use crate::steps::Step;
+
+/// How often a row of each kind is tried: begin, change, hand-over, undo, commit, abort.
+type Taste = [usize; 6];
+
+fn taste(rng: &mut Rng) -> Taste {
+    let mut taste = [0; 6];
+    for weight in &mut taste {
+        *weight = rng.pick(&[1, 2, 4, 10, 30]);
+    }
+    taste[1] = taste[1].max(taste[0]).max(4);
+    taste[4] = rng.pick(&[0, taste[4]]);
+    taste
+}
+
+/// A row to try: often allowed, often nearly so.
+fn candidate(rng: &mut Rng, taste: &Taste, habits: &Habits, ledger: &Ledger) -> [u8; 16] {
+    let mut kind = rng.weighted(taste) as u8 + 1;
+    let crowded = ledger.active.len() >= habits.visits && rng.chance(14, 15);
+    if kind == BEGIN && crowded {
+        kind = CHANGE;
+    }
+    if ledger.active.is_empty() {
+        kind = BEGIN;
+    }
+    let mut some_visit = || match ledger.active.as_slice() {
+        [] => 1,
+        active => rng.pick(active),
+    };
+    let (visit, receiver) = (some_visit(), some_visit());
+    let cell = rng.pick(&habits.cells);
+    let number = ledger.rows.len() as u16 + 1;
+    let plain = Row { kind, visit, number, ..Row::default() };
+    let row = match kind {
+        BEGIN => Row { visit: ledger.begin_rows() as u16 + 1, ..plain },
+        CHANGE => Row { cell, change: amount(rng, habits.small), ..plain },
+        HAND_OVER => {
+            let cell = held_cell(rng, ledger, visit).unwrap_or(cell);
+            Row { receiver, cell, ..plain }
+        }
+        UNDO => undo(rng, ledger, plain),
+        _ => plain,
+    };
+    let mut bytes = row.bytes();
+    if rng.chance(1, 12) {
+        spoil(rng, &mut bytes);
+    }
+    bytes
+}
+
+/// Mostly the undo row of the visit's highest open change, now and then that of another change.
+fn undo(rng: &mut Rng, ledger: &Ledger, plain: Row) -> Row {
+    let highest = ledger.highest_open(plain.visit);
+    let any = match ledger.changes.as_slice() {
+        [] => None,
+        changes => Some(&changes[rng.below(changes.len())]),
+    };
+    let change = if rng.chance(1, 10) { any } else { highest };
+    let Some(change) = change else { return plain };
+    Row {
+        visit: rng.pick(&[plain.visit, plain.visit, change.holder]),
+        cell: change.cell,
+        undone: change.row,
+        change: change.amount,
+        ..plain
+    }
+}
+
+/// Changes one byte of a row.
+pub fn spoil(rng: &mut Rng, bytes: &mut [u8; 16]) {
+    let at = rng.below(16);
+    let bit = 1 << rng.below(8);
+    bytes[at] = rng.pick(&[bytes[at].wrapping_add(1), bytes[at].wrapping_sub(1), bytes[at] ^ bit, 0]);
+}
+
+/// A log in the making.
+#[derive(Default)]
+struct Made {
+    rows: Vec<[u8; 16]>,
+    ledger: Ledger,
+    /// Rows that were refused, each with the number of rows that it was tried after.
+    refused: Vec<(usize, [u8; 16])>,
+}
+
+/// Adds allowed rows to the log until it has this length or nothing fits any more.
+fn grow(rng: &mut Rng, made: &mut Made, taste: &Taste, habits: &Habits, length: usize) {
+    let mut in_vain = 0;
+    while made.rows.len() < length && in_vain < 60 {
+        let bytes = candidate(rng, taste, habits, &made.ledger);
+        if is_allowed(&made.ledger, &bytes) {
+            in_vain = 0;
+            made.rows.push(bytes);
+            made.ledger.add(Row::read(&bytes));
+        } else {
+            in_vain += 1;
+            if bytes[0] != 0 {
+                made.refused.push((made.rows.len(), bytes));
+            }
+        }
+    }
+}
+
+/// Stores some pages as a flush at an earlier moment would have left them.
+fn store_pages(rng: &mut Rng, arena: &mut Arena, rows: &[[u8; 16]]) -> Outcome<()> {
+    for page in 0..32 {
+        if rng.chance(1, 2) {
+            continue;
+        }
+        let mut charts = arena.paper.charts.clone();
+        for bytes in &rows[..rng.below(rows.len() + 1)] {
+            let row = Row::read(bytes);
+            if usize::from(row.cell / 7) == page {
+                paper::apply(&mut charts, &row);
+            }
+        }
+        let bytes = charts[page * 32..(page + 1) * 32].to_vec();
+        if bytes != arena.paper.charts[page * 32..(page + 1) * 32] {
+            arena.step(Step::WriteCharts(page * 32, bytes))?;
+        }
+    }
+    Ok(())
+}
+
+/// Opens the log, with cuts, and works on from there; then tries some of the refused rows.
+fn open_and_try(
+    bench: &mut Bench,
+    rng: &mut Rng,
+    made: &Made,
+    habits: &Habits,
+    tries: usize,
+) -> Result<(), Failure> {
+    bench.case(|arena| {
+        arena.step(Step::Format(formatted(rng)))?;
+        arena.step(Step::WriteLog(made.rows.clone()))?;
+        store_pages(rng, arena, &made.rows)?;
+        if rng.chance(1, 2) {
+            arena.step(Step::Scramble(rng.draw()))?;
+        }
+        for _ in 0..rng.below(3) {
+            arena.step(Step::Open(fuse(rng)))?;
+        }
+        arena.step(Step::Open(None))?;
+        for _ in 0..rng.below(12) {
+            let call = next_call(rng, habits, arena.ledger());
+            arena.step(Step::Call(call))?;
+        }
+        arena.step(Step::Open(None))?;
+        Ok(())
+    })?;
+    for _ in 0..tries.min(made.refused.len()) {
+        let (length, bytes) = rng.pick(&made.refused);
+        let mut rows = made.rows[..length].to_vec();
+        rows.push(bytes);
+        bench.case(|arena| {
+            arena.step(Step::WriteLog(rows))?;
+            arena.expect(Step::Open(None), 3, length as i64 + 1)
+        })?;
+    }
+    Ok(())
+}
+
+/// A log of up to so many rows.
+pub fn make(seed: u64, length: usize) -> Vec<[u8; 16]> {
+    let rng = &mut Rng::new(seed);
+    let habits = habits(rng);
+    made(rng, &habits, length).rows
+}
+
+fn made(rng: &mut Rng, habits: &Habits, length: usize) -> Made {
+    let mut made = Made::default();
+    for _ in 0..3 {
+        let taste = taste(rng);
+        grow(rng, &mut made, &taste, habits, length);
+    }
+    made
+}
+
+pub fn play(bench: &mut Bench, seed: u64) -> Result<(), Failure> {
+    let rng = &mut Rng::new(seed);
+    let habits = habits(rng);
+    let length = 1 + rng.below(160);
+    let made = made(rng, &habits, length);
+    open_and_try(bench, rng, &made, &habits, 6)
+}
+
+/// First begin, change and hand-over rows alone, until the reserve leaves no room; then all kinds.
+pub fn play_full(bench: &mut Bench, seed: u64) -> Result<(), Failure> {
+    let rng = &mut Rng::new(seed);
+    let habits = Habits { visits: rng.pick(&[1, 5, 16]), ..habits(rng) };
+    let mut made = Made::default();
+    let fill = [4, 60, rng.pick(&[0, 10, 60]), 0, 0, 0];
+    grow(rng, &mut made, &fill, &habits, 4_096);
+    made.refused.retain(|(length, _)| *length > 1_000);
+    open_and_try(bench, rng, &made, &habits, 5)?;
+    for _ in 0..6 {
+        let taste = taste(rng);
+        grow(rng, &mut made, &taste, &habits, 4_096);
+    }
+    let drain = [1, 1, 1, 40, 1, 20];
+    grow(rng, &mut made, &drain, &habits, 4_096);
+    open_and_try(bench, rng, &made, &habits, 5)
+}

@@ -1,0 +1,21 @@
+//! The chart store of document 01, twice, and the comparison of the two.
+//!
+//! `paper` is document 01 rendered as literally as possible; `fast` is an efficient store. The
+//! comparison gives both the same calls and expects the same answers and the same bytes after each of
+//! them. It knows a store only by the trait `Store`, so that further implementations can take part.
+
+pub mod adapters;
+pub mod arena;
+pub mod bench;
+pub mod cases;
+pub mod cover;
+pub mod demands;
+pub mod fast;
+pub mod observe;
+pub mod paper;
+pub mod prng;
+pub mod report;
+pub mod runfile;
+pub mod shrink;
+pub mod steps;
+pub mod store;

@@ -1,0 +1,734 @@
+//! Document 01 rendered as literally as possible: the truth of the comparison.
+//!
+//! The parts stand in the order of document 01: the store, its rows, the row rules, power, the calls
+//! with their refusals. Each part quotes the words that it renders. Between two calls nothing is kept
+//! but what 01 keeps: stored log, stored charts, copy, tail, fuse, and whether the store is open.
+//! Active visits, holders, open changes, reserve, free rows and scopes are worked out from the list
+//! of rows anew in every call; there is no scope table and no counter.
+
+use crate::store::{Answer, Lengths, Scope, CELLS, RIGHT};
+
+// ---------------------------------------------------------------------------------- the store
+
+const PAGES: usize = 32;
+const PAGE_BYTES: usize = 32;
+const CELLS_PER_PAGE: usize = 7;
+const LOG_ROWS: usize = 4_096;
+const ROW_BYTES: usize = 16;
+const TAIL_ROWS: usize = 64;
+
+/// "Cell c (0 to 223) is place c mod 7 of page c / 7, rounded down."
+fn page_of(cell: u8) -> usize {
+    cell as usize / CELLS_PER_PAGE
+}
+
+/// "Bytes 0-1: page mark ... Bytes 2-3: zero. Then 7 cells, each a signed 32-bit number of grams."
+fn place_of(cell: u8) -> usize {
+    page_of(cell) * PAGE_BYTES + 4 + 4 * (cell as usize % CELLS_PER_PAGE)
+}
+
+/// "Multi-byte numbers are little-endian."
+pub fn get_cell(charts: &[u8], cell: u8) -> i32 {
+    let at = place_of(cell);
+    i32::from_le_bytes(charts[at..at + 4].try_into().unwrap())
+}
+
+pub fn set_cell(charts: &mut [u8], cell: u8, grams: i32) {
+    let at = place_of(cell);
+    charts[at..at + 4].copy_from_slice(&grams.to_le_bytes());
+}
+
+/// "Page mark, the row number of the last change or undo applied, 0 for none."
+pub fn get_mark(charts: &[u8], page: usize) -> u16 {
+    let at = page * PAGE_BYTES;
+    u16::from_le_bytes(charts[at..at + 2].try_into().unwrap())
+}
+
+pub fn set_mark(charts: &mut [u8], page: usize, row: u16) {
+    let at = page * PAGE_BYTES;
+    charts[at..at + 2].copy_from_slice(&row.to_le_bytes());
+}
+
+/// "A change is added, an undo subtracted, and the mark set." Other rows leave the charts alone.
+pub fn apply(charts: &mut [u8], row: &Row) {
+    if !row.is_change_or_undo() {
+        return;
+    }
+    let before = get_cell(charts, row.cell);
+    let amount = i32::from(row.change);
+    let after = match row.kind {
+        CHANGE => before + amount,
+        _ => before - amount,
+    };
+    set_cell(charts, row.cell, after);
+    set_mark(charts, page_of(row.cell), row.number);
+}
+
+// ------------------------------------------------------------------------------------ the rows
+
+/// "kind: 1 begin, 2 change, 3 hand-over, 4 undo, 5 commit, 6 abort"
+pub const BEGIN: u8 = 1;
+pub const CHANGE: u8 = 2;
+pub const HAND_OVER: u8 = 3;
+pub const UNDO: u8 = 4;
+pub const COMMIT: u8 = 5;
+pub const ABORT: u8 = 6;
+
+/// "Every byte not named for a kind is zero. A constant table says, for each kind and byte, whether
+/// it may be other than zero." A line for each kind from 0 to 6; a dot is a byte that must be zero.
+/// K kind, V visit, R receiver, C cell, N the row's own number, U row undone, A amount of change.
+const NAMED: [&[u8; ROW_BYTES]; 7] = [
+    b"................",
+    b"KV..NN..........",
+    b"KV.CNN..AA......",
+    b"KVRCNN..........",
+    b"KV.CNNUUAA......",
+    b"KV..NN..........",
+    b"KV..NN..........",
+];
+
+#[derive(Clone, Copy, PartialEq, Eq, Debug, Default)]
+pub struct Row {
+    pub kind: u8,
+    /// "visit, 1 to 255 (kind 3: giver; kind 4: holder)"
+    pub visit: u16,
+    /// "receiver (kind 3)"
+    pub receiver: u16,
+    /// "cell, 0 to 223 (kinds 2, 3, 4)"
+    pub cell: u8,
+    /// "the row's own number"
+    pub number: u16,
+    /// "row undone (kind 4)"
+    pub undone: u16,
+    /// "signed 16-bit change; kind 4: the change as first logged, not negated"
+    pub change: i16,
+}
+
+impl Row {
+    pub fn read(bytes: &[u8]) -> Row {
+        Row {
+            kind: bytes[0],
+            visit: u16::from(bytes[1]),
+            receiver: u16::from(bytes[2]),
+            cell: bytes[3],
+            number: u16::from_le_bytes([bytes[4], bytes[5]]),
+            undone: u16::from_le_bytes([bytes[6], bytes[7]]),
+            change: i16::from_le_bytes([bytes[8], bytes[9]]),
+        }
+    }
+
+    pub fn bytes(&self) -> [u8; ROW_BYTES] {
+        let mut bytes = [0; ROW_BYTES];
+        bytes[0] = self.kind;
+        bytes[1] = self.visit as u8;
+        bytes[2] = self.receiver as u8;
+        bytes[3] = self.cell;
+        bytes[4..6].copy_from_slice(&self.number.to_le_bytes());
+        bytes[6..8].copy_from_slice(&self.undone.to_le_bytes());
+        bytes[8..10].copy_from_slice(&self.change.to_le_bytes());
+        bytes
+    }
+
+    pub fn is_change_or_undo(&self) -> bool {
+        self.kind == CHANGE || self.kind == UNDO
+    }
+}
+
+/// "Its bytes are as in the table above", for the row with this number.
+fn bytes_as_in_table(bytes: &[u8], number: usize) -> bool {
+    let row = Row::read(bytes);
+    (BEGIN..=ABORT).contains(&row.kind)
+        && bytes.iter().zip(NAMED[row.kind as usize]).all(|(byte, name)| *byte == 0 || *name != b'.')
+        && row.visit >= 1
+        && (row.kind != HAND_OVER || row.receiver >= 1)
+        && usize::from(row.cell) < CELLS
+        && usize::from(row.number) == number
+}
+
+/// "4,096 rows of 16, numbered from 1. The log ends before the first row whose kind is 0."
+pub fn rows_of(log: &[u8]) -> Vec<Row> {
+    log.chunks_exact(ROW_BYTES).take_while(|bytes| bytes[0] != 0).map(Row::read).collect()
+}
+
+// ----------------------------------------------------------------------------------- row rules
+
+/// A change row, with what the rows say of it.
+#[derive(Clone, PartialEq, Eq, Debug)]
+pub struct Change {
+    pub row: u16,
+    pub maker: u16,
+    pub cell: u8,
+    pub amount: i16,
+    pub holder: u16,
+    pub undone: bool,
+}
+
+/// A list of rows, with what the row rules define for it.
+#[derive(Clone, PartialEq, Eq, Debug, Default)]
+pub struct Ledger {
+    pub rows: Vec<Row>,
+    /// The active visits, ascending.
+    pub active: Vec<u16>,
+    /// All changes of the list, ascending by row.
+    pub changes: Vec<Change>,
+}
+
+impl Ledger {
+    pub fn of(rows: &[Row]) -> Ledger {
+        let mut ledger = Ledger::default();
+        rows.iter().for_each(|row| ledger.add(*row));
+        ledger
+    }
+
+    /// The list with one more row.
+    pub fn add(&mut self, row: Row) {
+        self.rows.push(row);
+        match row.kind {
+            // "A visit is active from its begin until its commit or abort."
+            BEGIN => self.active.push(row.visit),
+            COMMIT | ABORT => self.active.retain(|visit| *visit != row.visit),
+            // "The holder of a change is its maker."
+            CHANGE => self.changes.push(Change {
+                row: row.number,
+                maker: row.visit,
+                cell: row.cell,
+                amount: row.change,
+                holder: row.visit,
+                undone: false,
+            }),
+            // "A hand-over makes the receiver the holder of all changes of that cell that the giver
+            // holds, wherever they stand in the log."
+            HAND_OVER => {
+                for change in &mut self.changes {
+                    if change.cell == row.cell && change.holder == row.visit {
+                        change.holder = row.receiver;
+                    }
+                }
+            }
+            // A change is no longer open once an undo row names it.
+            UNDO => {
+                if let Ok(at) = self.changes.binary_search_by_key(&row.undone, |change| change.row) {
+                    self.changes[at].undone = true;
+                }
+            }
+            _ => {}
+        }
+    }
+
+    pub fn is_active(&self, visit: u16) -> bool {
+        self.active.contains(&visit)
+    }
+
+    /// "A change is open if its holder is active and no undo row names it."
+    pub fn is_open(&self, change: &Change) -> bool {
+        self.is_active(change.holder) && !change.undone
+    }
+
+    /// The open changes, ascending by row.
+    pub fn open_changes(&self) -> impl DoubleEndedIterator<Item = &Change> {
+        self.changes.iter().filter(|change| self.is_open(change))
+    }
+
+    /// "Reserve = active visits + open changes."
+    pub fn reserve(&self) -> usize {
+        self.active.len() + self.open_changes().count()
+    }
+
+    /// "Free = 4,096 less the rows of log and tail."
+    pub fn free(&self) -> usize {
+        LOG_ROWS - self.rows.len()
+    }
+
+    pub fn begin_rows(&self) -> usize {
+        self.rows.iter().filter(|row| row.kind == BEGIN).count()
+    }
+
+    /// Whether an undo row bears the visit.
+    pub fn bears_undo(&self, visit: u16) -> bool {
+        self.rows.iter().any(|row| row.kind == UNDO && row.visit == visit)
+    }
+
+    /// Whether the visit holds a change of the cell.
+    pub fn holds(&self, visit: u16, cell: u8) -> bool {
+        self.changes.iter().any(|change| change.holder == visit && change.cell == cell)
+    }
+
+    /// "The highest open change of that holder."
+    pub fn highest_open(&self, holder: u16) -> Option<&Change> {
+        self.open_changes().rev().find(|change| change.holder == holder)
+    }
+
+    /// Whether a change of this cell by this visit, put after the list, would start a scope.
+    pub fn starts_scope(&self, visit: u16, cell: u8) -> bool {
+        starts_scope(&self.rows, visit, cell)
+    }
+
+    /// "A scope is in use while its changes' holder is active." One scope for each change that
+    /// starts one.
+    pub fn scopes_in_use(&self) -> usize {
+        self.changes
+            .iter()
+            .filter(|change| self.is_active(change.holder) && self.started(change))
+            .count()
+    }
+
+    fn started(&self, change: &Change) -> bool {
+        let before = &self.rows[..usize::from(change.row) - 1];
+        starts_scope(before, change.maker, change.cell)
+    }
+
+    /// The scopes in use, ascending by first row.
+    pub fn scopes(&self) -> Vec<Scope> {
+        let mut scopes: Vec<Scope> = Vec::new();
+        for change in &self.changes {
+            if !self.is_active(change.holder) {
+                continue;
+            }
+            if self.started(change) {
+                scopes.push(Scope {
+                    maker: change.maker,
+                    holder: change.holder,
+                    cell: change.cell,
+                    first: change.row,
+                    handed: self.handed_over_after(change),
+                    ..Scope::default()
+                });
+            }
+            // A change that starts no scope belongs to the one that its maker last started there.
+            let scope = scopes
+                .iter_mut()
+                .rev()
+                .find(|scope| scope.maker == change.maker && scope.cell == change.cell);
+            if let (Some(scope), false) = (scope, change.undone) {
+                scope.last = change.row;
+                scope.count += 1;
+            }
+        }
+        scopes
+    }
+
+    /// The first hand-over of a change is by its maker, who is its first holder.
+    fn handed_over_after(&self, change: &Change) -> bool {
+        self.rows[usize::from(change.row)..]
+            .iter()
+            .any(|row| row.kind == HAND_OVER && row.visit == change.maker && row.cell == change.cell)
+    }
+}
+
+/// "A change of cell c by visit v starts a new scope, unless v changed c before and has not handed c
+/// over since." The last row in which v changes c or hands it over decides.
+fn starts_scope(before: &[Row], visit: u16, cell: u8) -> bool {
+    let last = before.iter().rev().find(|row| {
+        (row.kind == CHANGE || row.kind == HAND_OVER) && row.visit == visit && row.cell == cell
+    });
+    match last {
+        Some(row) => row.kind == HAND_OVER,
+        None => true,
+    }
+}
+
+/// "A row is allowed after the rows before it when its bytes are as in the table above and: .."
+// The sums stand as in 01.
+#[allow(clippy::int_plus_one)]
+pub fn is_allowed(before: &Ledger, bytes: &[u8]) -> bool {
+    if before.rows.len() == LOG_ROWS || !bytes_as_in_table(bytes, before.rows.len() + 1) {
+        return false;
+    }
+    let row = Row::read(bytes);
+    match row.kind {
+        // "begin: visit = begin rows so far + 1; fewer than 16 are active; free is at least reserve
+        // + 2"
+        BEGIN => {
+            usize::from(row.visit) == before.begin_rows() + 1
+                && before.active.len() < 16
+                && before.free() >= before.reserve() + 2
+        }
+        // "change: the visit is active and no undo row bears it; if it starts a scope, fewer than 64
+        // are in use; free is at least reserve + 2"
+        CHANGE => {
+            before.is_active(row.visit)
+                && !before.bears_undo(row.visit)
+                && (!before.starts_scope(row.visit, row.cell) || before.scopes_in_use() < 64)
+                && before.free() >= before.reserve() + 2
+        }
+        // "hand-over: two different active visits, neither with an undo row; the giver holds a
+        // change of the cell; free is at least reserve + 1"
+        HAND_OVER => {
+            row.visit != row.receiver
+                && before.is_active(row.visit)
+                && before.is_active(row.receiver)
+                && !before.bears_undo(row.visit)
+                && !before.bears_undo(row.receiver)
+                && before.holds(row.visit, row.cell)
+                && before.free() >= before.reserve() + 1
+        }
+        // "undo: the named row is the highest open change of that holder; cell and change equal that
+        // row's"
+        UNDO => match before.highest_open(row.visit) {
+            Some(change) => {
+                change.row == row.undone && change.cell == row.cell && change.amount == row.change
+            }
+            None => false,
+        },
+        // "commit: the visit is active and has no undo row"
+        COMMIT => before.is_active(row.visit) && !before.bears_undo(row.visit),
+        // "abort: the visit is active and holds no open change"
+        _ => before.is_active(row.visit) && before.highest_open(row.visit).is_none(),
+    }
+}
+
+/// "3: a row not allowed, or a byte after the end not zero; gives the first such row". The rows of a
+/// log that has neither, or the number of that row.
+pub fn check_log(log: &[u8]) -> Result<Ledger, usize> {
+    let mut ledger = Ledger::default();
+    for bytes in log.chunks_exact(ROW_BYTES).take_while(|bytes| bytes[0] != 0) {
+        if !is_allowed(&ledger, bytes) {
+            return Err(ledger.rows.len() + 1);
+        }
+        ledger.add(Row::read(bytes));
+    }
+    let end = ledger.rows.len();
+    let mut after = log.chunks_exact(ROW_BYTES).skip(end);
+    match after.position(|bytes| bytes != [0; ROW_BYTES]) {
+        Some(blank_rows) => Err(end + blank_rows + 1),
+        None => Ok(ledger),
+    }
+}
+
+/// "4: mark neither 0 nor a change or undo row of that page, bytes 2-3 not zero, or a cell beyond
+/// ±200,000,000; gives the first such page".
+pub fn check_pages(charts: &[u8], rows: &[Row]) -> Result<(), usize> {
+    for page in 0..PAGES {
+        let mark = get_mark(charts, page);
+        let mark_is_right = mark == 0
+            || rows
+                .iter()
+                .any(|row| row.number == mark && row.is_change_or_undo() && page_of(row.cell) == page);
+        let at = page * PAGE_BYTES;
+        let zeros_are_right = charts[at + 2] == 0 && charts[at + 3] == 0;
+        let cells_are_right = (0..CELLS_PER_PAGE).all(|place| {
+            let cell = (page * CELLS_PER_PAGE + place) as u8;
+            (-200_000_000..=200_000_000).contains(&get_cell(charts, cell))
+        });
+        if !(mark_is_right && zeros_are_right && cells_are_right) {
+            return Err(page);
+        }
+    }
+    Ok(())
+}
+
+// --------------------------------------------------------------------------------------- power
+
+/// A refusal of the table: its number, and the value where one is named.
+pub struct Refusal {
+    number: u8,
+    value: i64,
+}
+
+/// "Values not named are 0."
+fn refuse_if(condition: bool, number: u8) -> Result<(), Refusal> {
+    if condition {
+        return Err(Refusal { number, value: 0 });
+    }
+    Ok(())
+}
+
+/// The value of a call that is done, or its refusal.
+type Outcome = Result<i64, Refusal>;
+
+/// The answer of a call: number 0 and its value, or the refusal.
+pub fn answer(outcome: Outcome) -> Answer {
+    match outcome {
+        Ok(value) => Answer { number: 0, value },
+        Err(Refusal { number, value }) => Answer { number, value },
+    }
+}
+
+/// "Stored charts", "stored log" and "in RAM: a copy of the charts, a tail of at most 64 rows not yet
+/// stored", with the fuse of the opening and whether the store is open.
+pub struct Paper {
+    pub log: Vec<u8>,
+    pub charts: Vec<u8>,
+    pub copy: Vec<u8>,
+    pub tail: Vec<Row>,
+    /// "None, or the number of stored writes that still land (32 bits)."
+    pub fuse: Option<u32>,
+    pub open: bool,
+    /// The lengths of the buffers that the host lends to the next call.
+    pub lent: Lengths,
+}
+
+impl Paper {
+    pub fn new() -> Paper {
+        Paper {
+            log: vec![0; RIGHT.log],
+            charts: vec![0; RIGHT.charts],
+            copy: vec![0; RIGHT.copy],
+            tail: Vec::new(),
+            fuse: None,
+            open: false,
+            lent: RIGHT,
+        }
+    }
+
+    /// "Copy and tail become zero and empty, every scope entry becomes unused (all fields zero), and
+    /// the store is closed."
+    fn lose_ram(&mut self) {
+        self.copy.fill(0);
+        self.tail.clear();
+        self.fuse = None;
+        self.open = false;
+    }
+
+    /// "The write after the last one doesn't land; the call answers 5, .."
+    fn spend_write(&mut self) -> Result<(), Refusal> {
+        match self.fuse {
+            None => {}
+            Some(0) => {
+                self.lose_ram();
+                return Err(Refusal { number: 5, value: 0 });
+            }
+            Some(left) => self.fuse = Some(left - 1),
+        }
+        Ok(())
+    }
+
+    // ----------------------------------------------------------------------- inside the calls
+
+    /// "every call | 1: a lent buffer has another length"
+    fn check_lengths(&self) -> Result<(), Refusal> {
+        refuse_if(self.lent != RIGHT, 1)
+    }
+
+    /// "every call but format and open | 5: store closed"
+    fn check_open(&self) -> Result<(), Refusal> {
+        refuse_if(!self.open, 5)
+    }
+
+    /// The number of rows of the stored log.
+    pub fn stored_rows(&self) -> usize {
+        let rows = self.log.chunks_exact(ROW_BYTES);
+        rows.take_while(|bytes| bytes[0] != 0).count()
+    }
+
+    /// The rows of log and tail.
+    pub fn rows(&self) -> Vec<Row> {
+        let mut rows = rows_of(&self.log);
+        rows.extend(&self.tail);
+        rows
+    }
+
+    /// The rows of log and tail, with what the row rules define for them.
+    pub fn ledger(&self) -> Ledger {
+        Ledger::of(&self.rows())
+    }
+
+    /// "Append (inside): if the tail holds 64 rows it is forced first. A change or undo is applied
+    /// to the copy when appended." Gives the row its number and returns it.
+    fn append(&mut self, row: Row) -> Outcome {
+        if self.tail.len() == TAIL_ROWS {
+            self.force_tail()?;
+        }
+        let number = (self.stored_rows() + self.tail.len() + 1) as u16;
+        let row = Row { number, ..row };
+        self.tail.push(row);
+        apply(&mut self.copy, &row);
+        Ok(i64::from(number))
+    }
+
+    /// "Force stores the tail's rows in order, one write each."
+    fn force_tail(&mut self) -> Result<(), Refusal> {
+        self.force_up_to(u16::MAX)
+    }
+
+    /// Stores the tail's rows up to this row number.
+    fn force_up_to(&mut self, number: u16) -> Result<(), Refusal> {
+        while self.tail.first().is_some_and(|row| row.number <= number) {
+            self.spend_write()?;
+            let row = self.tail.remove(0);
+            let at = self.stored_rows() * ROW_BYTES;
+            self.log[at..at + ROW_BYTES].copy_from_slice(&row.bytes());
+        }
+        Ok(())
+    }
+
+    /// The undo row for a change: "the change as first logged, not negated".
+    fn append_undo(&mut self, change: &Change) -> Outcome {
+        self.append(Row {
+            kind: UNDO,
+            visit: change.holder,
+            cell: change.cell,
+            undone: change.row,
+            change: change.amount,
+            ..Row::default()
+        })
+    }
+
+    fn append_abort(&mut self, visit: u16) -> Outcome {
+        self.append(Row { kind: ABORT, visit, ..Row::default() })
+    }
+
+    // --------------------------------------------------------------------------- the ten calls
+
+    /// "Format takes 224 cells, marks 0, blank log. Power is held during it. Copy, tail and scopes
+    /// end as after a power failure, and the store is closed."
+    /// "format | 2: a cell beyond ±1,000,000; gives the first such cell"
+    pub fn format(&mut self, cells: &[i32]) -> Outcome {
+        self.check_lengths()?;
+        refuse_if(cells.len() != CELLS, 1)?;
+        let too_far = |grams: &i32| !(-1_000_000..=1_000_000).contains(grams);
+        if let Some(cell) = cells.iter().position(too_far) {
+            return Err(Refusal { number: 2, value: cell as i64 });
+        }
+        self.log.fill(0);
+        self.charts.fill(0);
+        for (cell, grams) in cells.iter().enumerate() {
+            set_cell(&mut self.charts, cell as u8, *grams);
+        }
+        self.lose_ram();
+        Ok(0)
+    }
+
+    /// "Open may come in any state; what was in RAM is lost. It checks log, then pages, and loads
+    /// the copy."
+    /// "After 3 or 4 log and charts are unchanged, while copy, tail and scopes end as after a power
+    /// failure and the store is closed."
+    pub fn open(&mut self, fuse: Option<u32>) -> Outcome {
+        self.check_lengths()?;
+        self.lose_ram();
+        let ledger = check_log(&self.log).map_err(|row| Refusal { number: 3, value: row as i64 })?;
+        check_pages(&self.charts, &ledger.rows)
+            .map_err(|page| Refusal { number: 4, value: page as i64 })?;
+        self.copy.copy_from_slice(&self.charts);
+        self.open = true;
+        self.fuse = fuse;
+
+        // "Forward: each change or undo row whose number exceeds its page's mark is applied."
+        for row in &ledger.rows {
+            if row.is_change_or_undo() && row.number > get_mark(&self.copy, page_of(row.cell)) {
+                apply(&mut self.copy, row);
+            }
+        }
+        // "Backward: open changes fall in descending row number over all visits, each by an undo
+        // row."
+        let mut rows_written = 0;
+        for change in ledger.open_changes().rev() {
+            self.append_undo(change)?;
+            rows_written += 1;
+        }
+        // "Then an abort row for each active visit, highest number first."
+        for visit in ledger.active.iter().rev() {
+            self.append_abort(*visit)?;
+            rows_written += 1;
+        }
+        // "Then force. It returns the rows it wrote."
+        self.force_tail()?;
+        Ok(rows_written)
+    }
+
+    /// "Begin returns the visit."
+    /// "begin | 6: 255 visits used; 7: 16 active; 8: free below need"
+    pub fn begin(&mut self) -> Outcome {
+        self.check_lengths()?;
+        self.check_open()?;
+        let ledger = self.ledger();
+        refuse_if(ledger.begin_rows() == 255, 6)?;
+        refuse_if(ledger.active.len() == 16, 7)?;
+        refuse_if(ledger.free() < ledger.reserve() + 2, 8)?;
+        let visit = ledger.begin_rows() as u16 + 1;
+        self.append(Row { kind: BEGIN, visit, ..Row::default() })?;
+        Ok(i64::from(visit))
+    }
+
+    /// "Change and hand over [return] their row number."
+    /// "change | 9: visit not active; 10: cell above 223; 11: scopes used up; 8"
+    pub fn change(&mut self, visit: u16, cell: u8, amount: i16) -> Outcome {
+        self.check_lengths()?;
+        self.check_open()?;
+        let ledger = self.ledger();
+        refuse_if(!ledger.is_active(visit), 9)?;
+        refuse_if(cell > 223, 10)?;
+        let scopes_used_up = ledger.starts_scope(visit, cell) && ledger.scopes_in_use() >= 64;
+        refuse_if(scopes_used_up, 11)?;
+        refuse_if(ledger.free() < ledger.reserve() + 2, 8)?;
+        self.append(Row { kind: CHANGE, visit, cell, change: amount, ..Row::default() })
+    }
+
+    /// "hand over | 9: giver, then receiver, not active; 12: same visit; 10; 13: giver holds none;
+    /// 8"
+    pub fn hand_over(&mut self, giver: u16, receiver: u16, cell: u8) -> Outcome {
+        self.check_lengths()?;
+        self.check_open()?;
+        let ledger = self.ledger();
+        refuse_if(!ledger.is_active(giver), 9)?;
+        refuse_if(!ledger.is_active(receiver), 9)?;
+        refuse_if(giver == receiver, 12)?;
+        refuse_if(cell > 223, 10)?;
+        refuse_if(!ledger.holds(giver, cell), 13)?;
+        refuse_if(ledger.free() < ledger.reserve() + 1, 8)?;
+        self.append(Row { kind: HAND_OVER, visit: giver, receiver, cell, ..Row::default() })
+    }
+
+    /// "Commit appends its row, forces, returns the row number."
+    /// "commit, abort | 9"
+    pub fn commit(&mut self, visit: u16) -> Outcome {
+        self.check_lengths()?;
+        self.check_open()?;
+        refuse_if(!self.ledger().is_active(visit), 9)?;
+        let number = self.append(Row { kind: COMMIT, visit, ..Row::default() })?;
+        self.force_tail()?;
+        Ok(number)
+    }
+
+    /// "Abort undoes the visit's open changes, highest row first, appends the abort row, returns its
+    /// number. It doesn't force."
+    pub fn abort(&mut self, visit: u16) -> Outcome {
+        self.check_lengths()?;
+        self.check_open()?;
+        let ledger = self.ledger();
+        refuse_if(!ledger.is_active(visit), 9)?;
+        for change in ledger.open_changes().rev() {
+            if change.holder == visit {
+                self.append_undo(change)?;
+            }
+        }
+        self.append_abort(visit)
+    }
+
+    /// "Force stores the tail's rows in order, one write each."
+    pub fn force(&mut self) -> Outcome {
+        self.check_lengths()?;
+        self.check_open()?;
+        self.force_tail()?;
+        Ok(0)
+    }
+
+    /// "Flush page forces the tail up to the page's mark, then writes the page, also if unchanged."
+    /// "flush | 14: page above 31"
+    pub fn flush_page(&mut self, page: u8) -> Outcome {
+        self.check_lengths()?;
+        self.check_open()?;
+        refuse_if(page > 31, 14)?;
+        let page = usize::from(page);
+        self.force_up_to(get_mark(&self.copy, page))?;
+        self.spend_write()?;
+        let bytes = page * PAGE_BYTES..(page + 1) * PAGE_BYTES;
+        self.charts[bytes.clone()].copy_from_slice(&self.copy[bytes]);
+        Ok(0)
+    }
+
+    /// "Read returns a cell of the copy."
+    /// "read | 10"
+    pub fn read(&mut self, cell: u8) -> Outcome {
+        self.check_lengths()?;
+        self.check_open()?;
+        refuse_if(cell > 223, 10)?;
+        Ok(i64::from(get_cell(&self.copy, cell)))
+    }
+}
+
+impl Default for Paper {
+    fn default() -> Paper {
+        Paper::new()
+    }
+}

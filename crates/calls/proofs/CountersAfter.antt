@@ -1,0 +1,97 @@
+-- The journal's counters after an accepted call: at most 64 rows wait, and there are at most 4,096. Assumes nothing.
+use Prim.Native.Nat.{ℕ, zero, suc, _+_, _-_, _≤_}
+use native.Mathlib.Omega.{arith}
+use mathlib.Core.Path.{_≡_, refl}
+use mathlib.Core.Bool.{Bool, true, false, cond}
+use mathlib.Core.List.{List, [], _∷_}
+use lib.ListN.{length}
+use lib.Dec.{leb}
+use borrow.Author.Tests.{leb-true}
+use Rattle.book.specs.Calls.{Call}
+use Rattle.book.specs.Rows.{Row}
+use Rattle.tables.specs.declared.Whom.the-variants.{One}
+use Rattle.state.specs.declared.ram.Phase.{Phase}
+use Rattle.state.specs.declared.ram.Phase.the-variants.{Open, Closed}
+use Rattle.state.specs.declared.ram.Fuse.{Fuse}
+use Rattle.state.specs.declared.ram.Fuse.the-variants.{Unlimited, Left}
+use Rattle.journal.specs.declared.Control.{Control}
+use Rattle.journal.specs.declared.force.Run.{Run}
+use Rattle.journal.specs.declared.fuse.Spent.{Spent}
+use Rattle.journal.specs.declared.fuse.Spent.the-variants.{Lands, Beyond}
+use Rattle.journal.specs.Writes.{spendOf, putRow}
+use Rattle.journal.specs.Force.{runs, chunks, closedAt, controlAfter}
+use Rattle.journal.specs.Journal.{Journal, forced, forcedUpTo, spent, pagedIf, paged}
+use Rattle.journal.proofs.Room.{chunks-count}
+use Rattle.undo.specs.Writing.{rowCount}
+use Rattle.undo.proofs.Counters.{Counters, counters-written, counters-fallAll}
+use Rattle.calls.specs.Acts.{Core, acted, fell, upToMark, flushCount}
+
+-- ── A run of stored writes ────────────────────────────────────────────────────────────────────────────────────────────
+
+run-stored : (f : Fuse) (k : ℕ) (log : List ℕ) (rs : List (List ℕ)) → runs f k log rs .run .stored ≤ k + length rs
+unfolding runs
+run-stored f k log [] = omega arith
+run-stored Unlimited k log (r ∷ rs) = omega (arith, run-stored Unlimited (suc k) (putRow log k r) rs)
+run-stored (Left zero) k log (r ∷ rs) = omega arith
+run-stored (Left (suc n)) k log (r ∷ rs) = omega (arith, run-stored (Left n) (suc k) (putRow log k r) rs)
+
+-- a run that stores at most m rows, and leaves so many waiting
+after-run : (c : Control) (w m : ℕ) (run : Run) → run .stored ≤ c .stored + m → w + m ≤ c .waiting → Counters c → Counters (controlAfter c w run)
+after-run c w m run h k n = go (run .cut)
+  where
+    go : (t : Bool) → Counters (cond t (closedAt (run .stored)) (record { phase = c .phase; fuse = run .fuse; stored = run .stored; waiting = w }))
+    go true = record { few = omega arith; room = omega (arith, n .room) }
+    go false = record { few = omega (arith, n .few); room = omega (arith, n .room) }
+
+module _ (j : Journal) (n : Counters (j .control)) where
+  abbrev run : ℕ → Run
+  run m = runs (j .control .fuse) (j .control .stored) (j .log) (chunks m (j .tail)) .run
+
+  ran : (m : ℕ) → run m .stored ≤ j .control .stored + m
+  ran m = rw (chunks-count m (j .tail)) at (run-stored (j .control .fuse) (j .control .stored) (j .log) (chunks m (j .tail)))
+
+  counters-forced : Counters (forced j .control)
+  unfolding forced
+  counters-forced = after-run (j .control) 0 (j .control .waiting) (run (j .control .waiting)) (ran (j .control .waiting)) (omega arith) n
+
+  counters-forcedUpTo : (m : ℕ) → m ≤ j .control .waiting → Counters (forcedUpTo m j .control)
+  unfolding forcedUpTo
+  counters-forcedUpTo m h = after-run (j .control) (j .control .waiting - m) m (run m) (ran m) (omega arith) n
+
+-- ── A page ────────────────────────────────────────────────────────────────────────────────────────────────────────────
+
+counters-paged : (c : Control) (charts : List ℕ) (p : ℕ) (page : List ℕ) → Counters c → Counters (paged c charts p page .control)
+unfolding paged
+counters-paged c charts p page n = go (c .phase)
+  where
+    write : (s : Spent) → Counters (spent c s)
+    write (Lands f) = record { few = n .few; room = n .room }
+    write Beyond = record { few = omega arith; room = omega (arith, n .room) }
+
+    go : (q : Phase) → Counters (pagedIf q c charts p page .control)
+    go Closed = n
+    go Open = write (spendOf (c .fuse))
+
+-- ── A call ────────────────────────────────────────────────────────────────────────────────────────────────────────────
+
+up-to : (m w : ℕ) → cond (leb m w) m 0 ≤ w
+up-to m w = go (leb m w) refl
+  where
+    go : (t : Bool) → leb m w ≡ t → cond t m 0 ≤ w
+    go true e = leb-true m w e
+    go false e = omega arith
+
+pub counters-acted : (x : Core) (k : Call) → Counters (x .ram .journal .control) → Counters (acted x k .ram .journal .control)
+unfolding acted
+counters-acted x Call.begin n = counters-written (x .ram) _ n
+counters-acted x (Call.change v c a) n = counters-written (x .ram) _ n
+counters-acted x (Call.handOver g r c) n = counters-written (x .ram) _ n
+counters-acted x (Call.commit v) n = counters-forced _ (counters-written (x .ram) (Row.commit v) n)
+counters-acted x (Call.abort v) n =
+    counters-written (fell x v .ram) (Row.abort v)
+    (counters-fallAll (rowCount (x .ram .journal)) (One (record { 0 = v })) (x .tables .used) (record { ram = x .ram; scopes = x .scopes }) n)
+counters-acted x Call.force n = counters-forced (x .ram .journal) n
+counters-acted x (Call.flush p) n =
+    counters-paged _ (x .charts) p _
+    (counters-forcedUpTo (x .ram .journal) n (flushCount x p) (up-to (upToMark x p) (x .ram .journal .control .waiting)))
+counters-acted x (Call.read c) n = n

@@ -1,0 +1,115 @@
+-- The checks of a call in their order, and what is left after it, by what the functions have found. Assumes nothing.
+use Prim.Native.Nat.{ℕ, zero, suc, _+_, _≤_}
+use mathlib.Core.Path.{_≡_, refl}
+use mathlib.Core.Bool.{Bool, true, false, cond, _&&_}
+use mathlib.Core.List.{List, map}
+use lib.ListN.{length}
+use lib.IntN.{ℤ, pos}
+use lib.Dec.{leb, eqb}
+use borrow.Author.Tests.{leb-true, eq-eqb}
+use Rattle.book.specs.Calls.{Call}
+use Rattle.book.proofs.Lists.{and-l, and-r}
+use Rattle.tables.specs.Visits.{InRange}
+use Rattle.tables.specs.Entries.{entries}
+use Rattle.state.specs.declared.ram.Phase.the-variants.{Open, Closed}
+use Rattle.state.specs.declared.ram.State.{State}
+use Rattle.state.specs.declared.ram.Scope.{Scope}
+use Rattle.state.specs.World.{World, rightLengths, cleared}
+use Rattle.state.specs.Contracts.{result}
+use Rattle.calls.specs.Acts.{Core, core, acted, valueBy, valueNow}
+use Rattle.calls.specs.Refusals.{refusalBy}
+use Rattle.calls.specs.Perform.{isCoherent, entryIn, structOf, controlIn, coreOf, worldIn, settled, decided, numberOf, performed, performedAt, world, stateAfter, accepted, Lent}
+
+-- ── The counters ──────────────────────────────────────────────────────────────────────────────────────────────────────
+
+pub record Coherent (s : State) : Type 0 where
+  pub few : s .waiting ≤ 64
+  pub room : s .stored + s .waiting ≤ 4096
+  pub range : InRange (s .tables)
+
+pub coherent : (s : State) → isCoherent s ≡ true → Coherent s
+unfolding isCoherent
+coherent s e =
+    let a = leb (s .waiting) 64 in
+    let b = leb (s .stored + s .waiting) 4096 in
+    let c = leb (s .tables .count) 16 in
+    let three = and-l (a && b && c) _ e in
+    let two = and-l (a && b) c three in
+    record {
+      few = leb-true _ _ (and-l a b two);
+      room = leb-true _ _ (and-r a b two);
+      range = record { count = leb-true _ _ (and-r (a && b) c three); used = leb-true _ _ (and-r (a && b && c) _ e) };
+    }
+
+-- ── The checks ────────────────────────────────────────────────────────────────────────────────────────────────────────
+
+-- a wrong length comes first, whatever the number of entries
+pub wrong-length : (n : ℕ) (w : World) (k : Call) → rightLengths w ≡ false → result 1 (pos 0) w ≡ performedAt n w k
+unfolding performed numberOf
+wrong-length n w k e = go (eqb n 64)
+  where
+    go : (t : Bool) → result 1 (pos 0) w ≡ cond t (performed w k) (result 1 (pos 0) w)
+    go true = rw e
+    go false = refl
+
+module _ (s : State) (log charts copy : List ℕ) (table : List Scope) (k : Call) (lent : Lent (length log) (length charts) (length copy))
+    (long : length table ≡ 64) where
+  abbrev given : World
+  given = world s log charts copy table
+
+  right : rightLengths given ≡ true
+  right = rw (eq-eqb _ _ (lent .log-long), eq-eqb _ _ (lent .charts-long), eq-eqb _ _ (lent .copy-long), eq-eqb _ _ long)
+
+  -- the store is closed
+  pub when-closed : s .phase ≡ Closed → result 5 (pos 0) given ≡ performed given k
+  unfolding performed numberOf
+  when-closed e = rw (right, e)
+
+  -- the counters are beyond their limits
+  pub when-incoherent : s .phase ≡ Open → isCoherent s ≡ false → result 5 (pos 0) given ≡ performed given k
+  unfolding performed numberOf
+  when-incoherent e h = rw (right, h, e)
+
+  -- the call's own checks are left
+  pub when-coherent : s .phase ≡ Open → isCoherent s ≡ true
+      → decided given k (refusalBy (record { tables = s .tables; scopes = map entryIn table }) (s .stored + s .waiting) k) ≡ performed given k
+  unfolding performed numberOf coreOf
+  when-coherent e h = rw (right, h, e)
+
+-- one of the call's own checks refuses it
+pub when-refused : (w : World) (k : Call) (n m : ℕ) → n ≡ m → (n ≡ 0 → ⊥) → result n (pos 0) w ≡ decided w k m
+when-refused w k zero m e h = absurd (h refl)
+when-refused w k (suc n) m e h = rw (← e)
+
+-- none does; the call works on the flat table
+pub when-accepted : (s : State) (log charts copy : List ℕ) (table : List Scope) (flat : List ℕ) (k : Call) (m : ℕ) → entries flat ≡ map entryIn table → m ≡ 0
+    → accepted (core (controlIn s) (s .tables) log charts copy (s .tail) flat) k ≡ decided (world s log charts copy table) k m
+unfolding coreOf
+when-accepted s log charts copy table flat k m e h = rw (h, e)
+
+-- ── After an accepted call ────────────────────────────────────────────────────────────────────────────────────────────
+
+value-now : (x : Core) (k : Call) → valueNow (x .tables .begun) (acted x k .ram .journal .control) (acted x k .ram .copy) k ≡ valueBy x (acted x k) k
+unfolding acted valueNow valueBy
+value-now x Call.begin = refl
+value-now x (Call.change v c a) = refl
+value-now x (Call.handOver g r c) = refl
+value-now x (Call.commit v) = refl
+value-now x (Call.abort v) = refl
+value-now x Call.force = refl
+value-now x (Call.flush p) = refl
+value-now x (Call.read c) = refl
+
+module _ (x y : Core) (k : Call) (is : y ≡ acted x k) where
+  -- the power failed
+  pub when-cut : y .ram .journal .control .phase ≡ Closed → result 5 (pos 0) (cleared (y .ram .journal .log) (y .charts)) ≡ accepted x k
+  unfolding settled
+  when-cut e = rw (← is, e)
+
+  -- it held
+  pub when-done : (v : ℤ) (s : State) (table : List Scope) → y .ram .journal .control .phase ≡ Open
+      → v ≡ valueNow (x .tables .begun) (y .ram .journal .control) (y .ram .copy) k
+      → s ≡ stateAfter (y .ram .journal .control) (y .tables) (y .ram .journal .tail) → table ≡ map structOf (y .scopes)
+      → result 0 v (world s (y .ram .journal .log) (y .charts) (y .ram .copy) table) ≡ accepted x k
+  unfolding settled worldIn
+  when-done v s table e p q r = rw (p, q, r, is, value-now x k) (rw (rw is at e))

@@ -1,0 +1,19 @@
+-- `calls::refuse::refuse_end` meets its contract. Assumes nothing.
+use borrow.Author.Needs.{needs}
+use Rattle.calls.proofs.refuse.refuse_end.Statement.{statement}
+use Rattle.calls.proofs.refuse.refuse_end.Tie as tie
+use Rattle.calls.proofs.refuse.refuse_end.Reads as reads
+use Rattle.calls.proofs.refuse.refuse_end.Lts as lts
+use Rattle.tables.proofs.visits.is_listed.Reads as is-listed-reads
+
+is-listed-requires : tie.Need-is-listed-requires
+is-listed-requires c κs = search needs
+
+returns : tie.Need-returns
+returns c = rw (← (c .before .is-listed .ensures), (c .if1 .taken))
+
+returns-2 : tie.Need-returns-2
+returns-2 c = rw (← (c .before .is-listed .ensures), (c .if1 .left))
+
+pub refuse-end-spec : {M : Type 1} → statement M
+refuse-end-spec = tie.close (tie.spec is-listed-requires returns returns-2)

@@ -1,0 +1,19 @@
+-- `calls::refuse::refuse_read` meets its contract. Assumes nothing.
+use borrow.Author.Needs.{needs}
+use Rattle.calls.proofs.refuse.refuse_read.Statement.{statement}
+use Rattle.calls.proofs.refuse.refuse_read.Tie as tie
+use Rattle.calls.proofs.refuse.refuse_read.Reads as reads
+use Rattle.calls.proofs.refuse.refuse_read.Lts as lts
+use Rattle.rows.proofs.ranges.is_cell.Reads as is-cell-reads
+
+is-cell-requires : tie.Need-is-cell-requires
+is-cell-requires c κs = search needs
+
+returns : tie.Need-returns
+returns c = rw (← (c .before .is-cell .ensures), (c .if1 .taken))
+
+returns-2 : tie.Need-returns-2
+returns-2 c = rw (← (c .before .is-cell .ensures), (c .if1 .left))
+
+pub refuse-read-spec : {M : Type 1} → statement M
+refuse-read-spec = tie.close (tie.spec is-cell-requires returns returns-2)

@@ -1,0 +1,4 @@
+pub mod Requests
+pub mod Refusals
+pub mod Acts
+pub mod Perform

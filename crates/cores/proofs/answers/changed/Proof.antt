@@ -1,0 +1,35 @@
+-- `cores::answers::changed` meets its contract. Assumes nothing.
+use mathlib.Core.Path.{sym, _∙_}
+use borrow.Author.Tests.{ne-eqb}
+use mir.Facts.{toZ-ofZ}
+use Rattle.cores.proofs.Answering.{last-one, same-answer, refused-arm}
+use Rattle.cores.proofs.answers.changed.Statement.{statement}
+use Rattle.cores.proofs.answers.changed.Tie as tie
+
+word-requires : tie.Need-word-requires
+word-requires c κs = rw (toZ-ofZ (c .before .fits .value)) (c .before .pre .fits (c .match .keys1))
+
+returns : tie.Need-returns
+returns c = same-answer (c .before .match .keys1) (sym (toZ-ofZ (c .before .before .fits .value)) ∙ c .word .ensures)
+
+returns-2 : tie.Need-returns-2
+returns-2 c = refused-arm (c .before .pre) 0 (c .match .keys2)
+
+returns-3 : tie.Need-returns-3
+returns-3 c = refused-arm (c .before .pre) 4 (c .match .keys3)
+
+returns-4 : tie.Need-returns-4
+returns-4 c = refused-arm (c .before .pre) 8 (c .match .keys4)
+
+returns-5 : tie.Need-returns-5
+returns-5 c = refused-arm (c .before .pre) 9 (c .match .keys5)
+
+returns-6 : tie.Need-returns-6
+returns-6 c = refused-arm (c .before .pre) 10 (c .match .keys6)
+
+returns-7 : tie.Need-returns-7
+returns-7 c = let n = c .before .args .number in let r = c .match .rest in
+    refused-arm (c .before .pre) 7 (last-one n 8 (rw (ne-eqb n 0 (r .0 .0 .0 .0 .0 .1), ne-eqb n 1 (r .0 .0 .0 .0 .1), ne-eqb n 5 (r .0 .0 .0 .1), ne-eqb n 9 (r .0 .0 .1), ne-eqb n 10 (r .0 .1), ne-eqb n 11 (r .1)) at (c .before .pre .table)))
+
+pub changed-spec : {M : Type 1} → statement M
+changed-spec = tie.close (tie.spec word-requires returns returns-2 returns-3 returns-4 returns-5 returns-6 returns-7)

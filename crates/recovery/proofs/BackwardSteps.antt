@@ -1,0 +1,91 @@
+-- The backward part of an opening: the turns of the loop that ends each active visit, the journal's counters, and its three steps. Assumes nothing.
+use Prim.Native.Nat.{ℕ, zero, suc, _+_, _-_, _≤_, _<_}
+use mathlib.Core.Path.{_≡_, refl, ap, _∙_}
+use mathlib.Core.Bool.{Bool, true, false, cond}
+use mathlib.Core.List.{List, [], _∷_}
+use native.Mathlib.Omega.{arith}
+use lib.ListN.{getD, length}
+use Rattle.book.specs.Rows.{Row}
+use Rattle.state.specs.declared.ram.Fuse.{Fuse}
+use Rattle.state.specs.declared.ram.Fuse.the-variants.{Unlimited, Left}
+use Rattle.tables.specs.declared.Active.{Active}
+use Rattle.tables.specs.declared.Tables.{Tables}
+use Rattle.tables.specs.Visits.{vacant}
+use Rattle.tables.specs.declared.Whom.the-variants.{All}
+use Rattle.tables.specs.Rows.{Index}
+use Rattle.journal.specs.declared.Control.{Control}
+use Rattle.journal.specs.declared.force.Run.{Run}
+use Rattle.journal.specs.Writes.{putRow}
+use Rattle.journal.specs.Force.{runs, chunks, closedAt, controlAfter}
+use Rattle.journal.specs.Journal.{Journal, forced}
+use Rattle.journal.proofs.Room.{chunks-count}
+use Rattle.undo.specs.Writing.{Ram, written}
+use Rattle.undo.specs.TakeBack.{Taking, fallAll}
+use Rattle.undo.proofs.Counters.{Counters, counters-written, counters-fallAll}
+use Rattle.recovery.specs.Backward.{abortAll, starting, backward}
+
+module _ (t : Tables) (m : Ram) where
+  turn : (n : ℕ) → abortAll (suc n) t m ≡ abortAll n t (written m (Row.abort (getD (t .active) n vacant .visit .0)))
+  unfolding abortAll
+  turn n = refl
+
+  pub abort-turn : (n : ℕ) → 0 < n → abortAll n t m ≡ abortAll (n - 1) t (written m (Row.abort (getD (t .active) (n - 1) vacant .visit .0)))
+  abort-turn n h = let e : n ≡ suc (n - 1) = omega arith in ap (λ (k : ℕ). abortAll k t m) e ∙ turn (n - 1)
+
+  pub abort-end : (n : ℕ) → n ≤ 0 → abortAll n t m ≡ m
+  unfolding abortAll
+  abort-end n h = let e : n ≡ 0 = omega arith in rw e
+
+-- only the list of visits is looked at
+abbrev pub listing : List Active → Tables
+listing active = record { begun = 0; active = active; count = 0; used = 0 }
+
+pub abort-listed : (n : ℕ) (t : Tables) (m : Ram) → abortAll n t m ≡ abortAll n (listing (t .active)) m
+unfolding abortAll
+abort-listed zero t m = refl
+abort-listed (suc n) t m = abort-listed n t _
+
+pub counters-aborted : (n : ℕ) (t : Tables) (m : Ram) → Counters (m .journal .control) → Counters (abortAll n t m .journal .control)
+unfolding abortAll
+counters-aborted zero t m h = h
+counters-aborted (suc n) t m h =
+    let r = Row.abort (getD (t .active) n vacant .visit .0) in counters-aborted n t (written m r) (counters-written m r h)
+
+-- ── Force ─────────────────────────────────────────────────────────────────────────────────────────────────────────────
+
+run-bound : (f : Fuse) (k : ℕ) (log : List ℕ) (rs : List (List ℕ)) → runs f k log rs .run .stored ≤ k + length rs
+unfolding runs
+run-bound f k log [] = omega arith
+run-bound Unlimited k log (r ∷ rs) = omega (arith, run-bound Unlimited (suc k) (putRow log k r) rs)
+run-bound (Left zero) k log (r ∷ rs) = omega arith
+run-bound (Left (suc n)) k log (r ∷ rs) = omega (arith, run-bound (Left n) (suc k) (putRow log k r) rs)
+
+after-run : (c : Control) (run : Run) → run .stored ≤ 4096 → Counters (controlAfter c 0 run)
+after-run c run h = go (run .cut)
+  where
+    go : (t : Bool) → Counters (cond t (closedAt (run .stored)) (record { phase = c .phase; fuse = run .fuse; stored = run .stored; waiting = 0 }))
+    go true = record { few = omega arith; room = omega arith }
+    go false = record { few = omega arith; room = omega arith }
+
+counters-forced : (j : Journal) → Counters (j .control) → Counters (forced j .control)
+unfolding forced
+counters-forced j h =
+    let rs = chunks (j .control .waiting) (j .tail) in
+    let n = chunks-count (j .control .waiting) (j .tail) in
+    let b = run-bound (j .control .fuse) (j .control .stored) (j .log) rs in
+    after-run (j .control) (runs (j .control .fuse) (j .control .stored) (j .log) rs .run) (omega (arith, h .room))
+
+-- ── The three steps ───────────────────────────────────────────────────────────────────────────────────────────────────
+
+module _ (f : Fuse) (rows : ℕ) (x : Index) (log copy : List ℕ) where
+  pub counters-backward : rows ≤ 4096 → Counters (backward f rows x log copy .journal .control)
+  unfolding backward
+  counters-backward h =
+      counters-forced _
+      (counters-aborted (x .tables .count) (x .tables) _
+      (counters-fallAll rows All (x .tables .used) (record { ram = starting f rows log copy; scopes = x .scopes }) (record { few = omega arith; room = omega arith })))
+
+  pub three-steps : (t : Taking) (m : Ram) (j : Journal) → t ≡ fallAll rows All (x .tables .used) (record { ram = starting f rows log copy; scopes = x .scopes })
+      → m ≡ abortAll (x .tables .count) (x .tables) (t .ram) → j ≡ forced (m .journal) → record { journal = j; copy = m .copy } ≡ backward f rows x log copy
+  unfolding backward
+  three-steps t m j d e g = rw (g, e, d)

@@ -1,0 +1,80 @@
+-- `recovery::backward::abort_all` meets its contract.
+-- The loop's invariant: the first `n` visits make of the journal what all make of the journal at the start. Assumes nothing.
+use Prim.Native.Nat.{_-_, _≤_}
+use mathlib.Core.Path.{_≡_, refl, sym, _∙_}
+use native.Mathlib.Omega.{arith}
+use lib.ListN.{length, getD}
+use Rattle.book.specs.Rows.{Row}
+use Rattle.tables.specs.Visits.{vacant}
+use Rattle.undo.proofs.Counters.{counters, counters-written, fits-again}
+use Rattle.undo.specs.Writing.{ram, Fits}
+use Rattle.recovery.specs.Backward.{abortAll}
+use Rattle.recovery.proofs.BackwardSteps.{listing, abort-turn, abort-end, abort-listed}
+use Rattle.recovery.proofs.backward.abort_all.Statement.{statement}
+use Rattle.recovery.proofs.backward.abort_all.Tie as tie
+
+abbrev Inv-loop : tie.InvT-loop
+Inv-loop log₀ tail₀ copy₀ active d₀ n₀ log tail copy d n =
+    (n ≤ 16)
+    × Fits d (length log) (length tail) (length copy)
+    × (abortAll n₀ (listing active) (ram d₀ log₀ tail₀ copy₀) ≡ abortAll n (listing active) (ram d log tail copy))
+
+abbrev μ-loop : tie.MeasureT-loop
+μ-loop log₀ tail₀ copy₀ active d₀ n₀ log tail copy d n = n
+
+loop-holds : tie.Need-loop-holds Inv-loop μ-loop
+loop-holds c = let s = c .before .before .before .before in (s .pre .1, s .pre .0, refl)
+
+sub-n : tie.Need-sub-n Inv-loop μ-loop
+sub-n c = omega arith
+
+mul-a : tie.Need-mul-a Inv-loop μ-loop
+mul-a c = omega arith
+
+array-copy-out-a : tie.Need-array-copy-out-a Inv-loop μ-loop
+array-copy-out-a c = omega arith
+
+write-requires : tie.Need-write-requires Inv-loop μ-loop
+write-requires c κs = c .before .before .before .before .before .before .loop .inv .1
+
+loop-less : tie.Need-loop-less Inv-loop μ-loop
+loop-less c = omega arith
+
+loop-again : tie.Need-loop-again Inv-loop μ-loop
+loop-again c =
+    let l = c .before .before .before .before .before .before .before .before .before .before .before .before .before in
+    let t = l .before .before .before .before .before .args .t in
+    let w = c .before .before .before .before .before .before .write in
+    let m = ram (l .loop .d) (l .loop .log) (l .loop .tail) (l .loop .copy) in
+    let n = rw (← (w .ensures)) at (counters-written m (Row.abort (getD (t .active) (l .loop .n - 1) vacant .visit .0)) (counters (l .loop .inv .1))) in
+    (omega arith, fits-again (l .loop .inv .1) n (w .kept .1 .0) (w .kept .1 .1 .0) (w .kept .1 .1 .1 .0), rw (w .ensures) (l .loop .inv .2 ∙ abort-turn _ m (l .loop .n) (c .before .before .before .before .before .before .before .before .before .before .before .before .loop-test .taken)))
+
+same-length : tie.Need-same-length Inv-loop μ-loop
+same-length c = c .before .loop .inv .1 .sizes .log-long ∙ sym (c .before .before .before .before .before .before .pre .0 .sizes .log-long)
+
+same-length-2 : tie.Need-same-length-2 Inv-loop μ-loop
+same-length-2 c = c .before .loop .inv .1 .sizes .tail-long ∙ sym (c .before .before .before .before .before .before .pre .0 .sizes .tail-long)
+
+same-length-3 : tie.Need-same-length-3 Inv-loop μ-loop
+same-length-3 c = c .before .loop .inv .1 .copy-long ∙ sym (c .before .before .before .before .before .before .pre .0 .copy-long)
+
+returns : tie.Need-returns Inv-loop μ-loop
+returns c = let l = c .before .loop in sym (abort-listed _ _ _ ∙ l .inv .2 ∙ abort-end _ _ (l .n) (omega arith))
+
+pub abort-all-spec : {M : Type 1} → statement M
+abort-all-spec =
+    tie.close
+    (tie.spec
+    Inv-loop
+    μ-loop
+    loop-holds
+    sub-n
+    mul-a
+    array-copy-out-a
+    write-requires
+    loop-less
+    loop-again
+    same-length
+    same-length-2
+    same-length-3
+    returns)

@@ -1,0 +1,65 @@
+-- `recovery::look::before_last` meets its contract.
+-- The loop's invariant: the search from `n` on finds what the search from the scope's last change on finds. Assumes nothing.
+use Prim.Native.Nat.{_≤_}
+use mathlib.Core.Path.{_≡_, refl, sym, _∙_}
+use native.Mathlib.Omega.{arith}
+use Rattle.tables.specs.Meaning.{previous}
+use Rattle.recovery.specs.Scan.{rowIn}
+use Rattle.recovery.proofs.LookUps.{search-end, search-stop, search-hit, search-on}
+use Rattle.recovery.proofs.look.before_last.Statement.{statement}
+use Rattle.recovery.proofs.look.before_last.Tie as tie
+
+abbrev Inv-loop : tie.InvT-loop
+Inv-loop log k s n₀ n = let look = rowIn log k in (n ≤ s .last) × (previous look (s .maker) (s .cell) (s .first) (s .last) ≡ previous look (s .maker) (s .cell) (s .first) n)
+
+abbrev μ-loop : tie.MeasureT-loop
+μ-loop log k s n₀ n = n
+
+loop-holds : tie.Need-loop-holds Inv-loop μ-loop
+loop-holds c = (omega arith, refl)
+
+sub-n : tie.Need-sub-n Inv-loop μ-loop
+sub-n c = omega arith
+
+returns : tie.Need-returns Inv-loop μ-loop
+returns c =
+    let l = c .before .before .before .loop in
+    sym (l .inv .1 ∙ search-stop _ _ _ _ (l .n) (c .before .before .loop-test .taken) (c .if1 .taken))
+
+cast-is-change-at : tie.Need-cast-is-change-at Inv-loop μ-loop
+cast-is-change-at c = omega arith
+
+is-change-at-requires : tie.Need-is-change-at-requires Inv-loop μ-loop
+is-change-at-requires c κs = c .before .before .before .before .before .pre
+
+returns-2 : tie.Need-returns-2 Inv-loop μ-loop
+returns-2 c =
+    let l = c .before .before .before .before .before .loop in
+    sym (l .inv .1 ∙ search-hit _ _ _ _ (l .n) (omega arith) (omega arith) (sym (c .before .is-change-at .ensures) ∙ c .if2 .taken))
+
+loop-less : tie.Need-loop-less Inv-loop μ-loop
+loop-less c = omega arith
+
+loop-again : tie.Need-loop-again Inv-loop μ-loop
+loop-again c =
+    let l = c .before .before .before .before .before .loop in
+    (omega arith, l .inv .1 ∙ search-on _ _ _ _ (l .n) (omega arith) (omega arith) (sym (c .before .is-change-at .ensures) ∙ c .if2 .left))
+
+returns-3 : tie.Need-returns-3 Inv-loop μ-loop
+returns-3 c = let l = c .before .loop in sym (l .inv .1 ∙ search-end _ _ _ _ (l .n) (omega arith))
+
+pub before-last-spec : {M : Type 1} → statement M
+before-last-spec =
+    tie.close
+    (tie.spec
+    Inv-loop
+    μ-loop
+    loop-holds
+    sub-n
+    returns
+    cast-is-change-at
+    is-change-at-requires
+    returns-2
+    loop-less
+    loop-again
+    returns-3)

@@ -1,0 +1,70 @@
+-- `recovery::open::open_scanned` meets its contract. Assumes nothing.
+use borrow.Author.Tests.{eq-eqb, ne-eqb, lt-ltb, le-ltb}
+use borrow.Author.Needs.{needs}
+use Rattle.recovery.proofs.open.open_scanned.Statement.{statement}
+use Rattle.recovery.proofs.open.open_scanned.Tie as tie
+
+cast-t12 : tie.Need-cast-t12
+cast-t12 c = search needs
+
+closed-by-requires : tie.Need-closed-by-requires
+closed-by-requires c κs = search needs
+
+same-length : tie.Need-same-length
+same-length c = search needs
+
+returns : tie.Need-returns
+returns c = λ table. rw (c .before .before .closed-by .ensures .0, c .before .before .closed-by .ensures .1, ne-eqb _ _ (c .before .before .before .before .if1 .taken))
+
+bad-page-requires : tie.Need-bad-page-requires
+bad-page-requires c κs = search needs
+
+cast-t19 : tie.Need-cast-t19
+cast-t19 c = search needs
+
+closed-by-requires-2 : tie.Need-closed-by-requires-2
+closed-by-requires-2 c κs = search needs
+
+same-length-2 : tie.Need-same-length-2
+same-length-2 c = search needs
+
+same-length-3 : tie.Need-same-length-3
+same-length-3 c = search needs
+
+returns-2 : tie.Need-returns-2
+returns-2 c = λ table. rw (c .before .before .closed-by2 .ensures .0, c .before .before .closed-by2 .ensures .1, eq-eqb _ _ (c .before .before .before .before .before .before .before .if1 .left), ← (c .before .before .before .before .before .bad-page .ensures), lt-ltb _ _ (c .before .before .before .before .if2 .taken))
+
+recover-requires : tie.Need-recover-requires
+recover-requires c κs = search needs
+
+same-length-4 : tie.Need-same-length-4
+same-length-4 c = search needs
+
+same-length-5 : tie.Need-same-length-5
+same-length-5 c = search needs
+
+same-length-6 : tie.Need-same-length-6
+same-length-6 c = search needs
+
+returns-3 : tie.Need-returns-3
+returns-3 c = λ table. rw (eq-eqb _ _ (c .before .before .before .before .before .before .before .before .before .before .before .before .before .if1 .left), ← (c .before .before .before .before .before .before .before .before .before .before .before .bad-page .ensures), le-ltb _ _ (c .before .before .before .before .before .before .before .before .before .before .if2 .left)) (c .before .before .before .before .before .before .recover .ensures table)
+
+pub open-scanned-spec : {M : Type 1} → statement M
+open-scanned-spec =
+    tie.close
+    (tie.spec
+    cast-t12
+    closed-by-requires
+    same-length
+    returns
+    bad-page-requires
+    cast-t19
+    closed-by-requires-2
+    same-length-2
+    same-length-3
+    returns-2
+    recover-requires
+    same-length-4
+    same-length-5
+    same-length-6
+    returns-3)

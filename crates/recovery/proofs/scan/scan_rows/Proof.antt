@@ -1,0 +1,103 @@
+-- `recovery::scan::scan_rows` meets its contract.
+-- The loop's invariant: the rows from `k` on give what all rows give, and the counters are within the arrays. Assumes nothing.
+use Prim.Native.Nat.{_-_, _≤_}
+use mathlib.Core.Path.{_≡_, refl, sym, _∙_}
+use native.Mathlib.Omega.{arith}
+use lib.ListN.{length}
+use borrow.Author.Needs.{needs}
+use Rattle.tables.specs.Rows.{index}
+use Rattle.tables.specs.Visits.{InRange}
+use Rattle.recovery.specs.Scan.{scanFrom}
+use Rattle.recovery.proofs.ScanTurns.{taken-turn, ends-turn, bad-turn, scan-end, judged-range}
+use Rattle.recovery.proofs.scan.scan_rows.Statement.{statement}
+use Rattle.recovery.proofs.scan.scan_rows.Tie as tie
+
+abbrev Inv-loop : tie.InvT-loop
+Inv-loop log scopes₀ t₀ k₀ scopes t k =
+    (k ≤ 4096)
+    × (length scopes ≡ length scopes₀)
+    × InRange t
+    × (scanFrom 4096 0 log (index t₀ scopes₀) ≡ scanFrom (4096 - k) k log (index t scopes))
+
+abbrev μ-loop : tie.MeasureT-loop
+μ-loop log scopes₀ t₀ k₀ scopes t k = 4096 - k
+
+loop-holds : tie.Need-loop-holds Inv-loop μ-loop
+loop-holds c = (omega arith, refl, c .before .before .pre .1 .range, refl)
+
+judge-row-requires : tie.Need-judge-row-requires Inv-loop μ-loop
+judge-row-requires c κs =
+    let l = c .before .before .loop in
+    let s = c .before .before .before .before .before in
+    (record { long = s .pre .0; below = c .before .loop-test .taken }, record { range = l .inv .2; long = l .inv .1 ∙ s .pre .1 .long })
+
+enum-told : tie.Need-enum-told Inv-loop μ-loop
+enum-told c = search needs
+
+add-k : tie.Need-add-k Inv-loop μ-loop
+add-k c = omega arith
+
+loop-less : tie.Need-loop-less Inv-loop μ-loop
+loop-less c = omega arith
+
+loop-again : tie.Need-loop-again Inv-loop μ-loop
+loop-again c =
+    let l = c .before .before .before .before .before .before .before .before .loop in
+    let s = c .before .before .before .before .before .before .before .before .before .before .before in
+    let j = c .before .before .before .before .before .judge-row in
+    (omega arith, j .kept .1 .1 .1 .0 ∙ l .inv .1, rw (← (j .ensures)) at (judged-range (s .args .log .now) (l .k) (index (l .t) (l .scopes)) (l .inv .2)), l .inv .3 ∙ taken-turn _ _ _ _ (omega arith) (j .ensures) (c .enum-told .given .1))
+
+enum-told-2 : tie.Need-enum-told-2 Inv-loop μ-loop
+enum-told-2 c = search needs
+
+same-length : tie.Need-same-length Inv-loop μ-loop
+same-length c =
+    c .before .before .before .before .before .judge-row .kept .1 .1 .1 .0 ∙ c .before .before .before .before .before .before .before .before .loop .inv .1
+
+returns : tie.Need-returns Inv-loop μ-loop
+returns c =
+    let l = c .before .before .before .before .before .before .before .before .loop in
+    sym (l .inv .3 ∙ ends-turn _ _ _ _ (omega arith) (c .before .before .before .before .before .judge-row .ensures) (c .enum-told2 .given .1))
+
+enum-told-3 : tie.Need-enum-told-3 Inv-loop μ-loop
+enum-told-3 c = search needs
+
+add-t12 : tie.Need-add-t12 Inv-loop μ-loop
+add-t12 c = omega arith
+
+same-length-2 : tie.Need-same-length-2 Inv-loop μ-loop
+same-length-2 c =
+    c .before .before .before .before .before .judge-row .kept .1 .1 .1 .0 ∙ c .before .before .before .before .before .before .before .before .loop .inv .1
+
+returns-2 : tie.Need-returns-2 Inv-loop μ-loop
+returns-2 c =
+    let l = c .before .before .before .before .before .before .before .before .loop in
+    sym (l .inv .3 ∙ bad-turn _ _ _ _ (omega arith) (c .before .before .before .before .before .judge-row .ensures) (c .enum-told3 .given .1))
+
+same-length-3 : tie.Need-same-length-3 Inv-loop μ-loop
+same-length-3 c = c .before .loop .inv .1
+
+returns-3 : tie.Need-returns-3 Inv-loop μ-loop
+returns-3 c = let l = c .before .loop in sym (l .inv .3 ∙ scan-end _ _ _ (omega arith))
+
+pub scan-rows-spec : {M : Type 1} → statement M
+scan-rows-spec =
+    tie.close
+    (tie.spec
+    Inv-loop
+    μ-loop
+    loop-holds
+    judge-row-requires
+    enum-told
+    add-k
+    loop-less
+    loop-again
+    enum-told-2
+    same-length
+    returns
+    enum-told-3
+    add-t12
+    same-length-2
+    returns-2
+    same-length-3
+    returns-3)

@@ -1,0 +1,62 @@
+// The backward part of an opening: open changes fall over all visits, an abort row ends each active visit, then a force.
+ghost use mathlib.Core.Path.{_≡_};
+ghost use Prim.Native.Nat.{_≤_};
+ghost use lib.ListN.{length, replicate};
+ghost use Rattle.tables.specs.Rows.{index};
+ghost use Rattle.undo.specs.Writing.{ram, Fits};
+ghost use Rattle.recovery.specs.Backward.{abortAll, backward as backwardOf};
+ghost use Rattle.recovery.specs.Checking.{Recovers};
+use crate::scan::LogScan;
+use journal::Control;
+use journal::force::force;
+use rows::Row;
+use state::ram::Fuse;
+use state::ram::Phase;
+use tables::Tables;
+use tables::Whom;
+use undo::take_back::take_back;
+use undo::write::write;
+
+// An abort row for each active visit, the last one first.
+fn abort_all(c: Control, t: Tables, log: &mut [u8], tail: &mut [u8], copy: &mut [u8]) -> Control
+    requires { ⌜ Fits c (length (now log)) (length (now tail)) (length (now copy)) × (t .count ≤ 16) ⌝ }
+    ensures { λ r. ⌜ ram r (now (log .exit)) (now (tail .exit)) (now (copy .exit))
+        ≡ abortAll (t .count) t (ram c (now (log .entry)) (now (tail .entry)) (now (copy .entry))) ⌝ }
+{
+    let active = t.active;
+    let mut d = c;
+    let mut n = t.count;
+    while 0 < n {
+        n -= 1;
+        let a = active[n];
+        let v = a.visit;
+        d = write(d, log, tail, copy, Row::Abort(v));
+    }
+    d
+}
+
+// The scan says which visits are active, and with the scope table which changes are open. The tail is empty.
+pub fn backward(
+    fuse: Fuse,
+    s: LogScan,
+    log: &mut [u8],
+    tail: &mut [u8],
+    copy: &mut [u8],
+    scopes: &mut [u16],
+) -> Control
+    requires { ⌜ Recovers s (length (now log)) (length (now copy)) (length (now scopes)) ⌝ }
+    requires { ⌜ now tail ≡ replicate 1024 0 ⌝ }
+    ensures { λ r. ⌜ ram r (now (log .exit)) (now (tail .exit)) (now (copy .exit))
+        ≡ backwardOf fuse (s .rows) (index (s .tables) (now (scopes .entry))) (now (log .entry)) (now (copy .entry)) ⌝ }
+{
+    let t = s.tables;
+    let c = Control {
+        phase: Phase::Open,
+        fuse: fuse,
+        stored: s.rows,
+        waiting: 0,
+    };
+    let d = take_back(c, log, tail, copy, scopes, t.used, Whom::All);
+    let e = abort_all(d, t, log, tail, copy);
+    force(e, log, tail)
+}

@@ -1,0 +1,110 @@
+// Format: charts from the values of the cells, an empty log, and a closed store; for whatever it is handed.
+ghost use mathlib.Core.Path.{_≡_};
+ghost use mathlib.Core.Bool.{false};
+ghost use mathlib.Core.List.{List, []};
+ghost use lib.ListN.{length, replicate};
+ghost use Rattle.book.specs.Limits.{formatBound};
+ghost use Rattle.book.specs.Numbers.{within};
+ghost use Rattle.book.specs.Pages.{chartBytes, pageAfter};
+ghost use Rattle.state.specs.declared.ram.Scope.{Scope};
+ghost use Rattle.state.specs.Contracts.{badCell, cellsOf, formats};
+ghost use Rattle.recovery.specs.Answering.{formatted, world};
+use crate::ram::closed_state;
+use crate::ram::lengths_fit;
+use charts::page::build_page;
+use journal::writes::clear;
+use rows::Cell;
+use state::answers::Formatted;
+use state::ram::State;
+
+// The state and the answer, and whether every entry of the lent scope table is to be unused.
+pub struct FormatOut {
+    pub state: State,
+    pub answer: Formatted,
+    pub clears: bool,
+}
+
+// A number of grams within ±1,000,000.
+fn is_format(z: i32) -> bool
+    ensures { λ r. ⌜ r ≡ within formatBound z ⌝ }
+{
+    -1000000 <= z && z <= 1000000
+}
+
+// The first cell that is not, or 224.
+fn bad_cell(cells: &[i32]) -> usize
+    requires { ⌜ length (now cells) ≡ 224 ⌝ }
+    ensures { λ r. ⌜ r ≡ badCell (now (cells .entry)) ⌝ }
+{
+    let mut c: usize = 0;
+    while c < 224 {
+        if is_format(cells[c]) {
+            c += 1;
+        } else {
+            return c;
+        }
+    }
+    c
+}
+
+// Charts of the cells, marks 0.
+fn build_charts(charts: &mut [u8], cells: &[i32])
+    requires { ⌜ length (now charts) ≡ 1024 ⌝ }
+    requires { ⌜ length (now cells) ≡ 224 ⌝ }
+    ensures { λ _. ⌜ now (charts .exit) ≡ chartBytes (pageAfter (cellsOf (now (cells .entry))) []) ⌝ }
+{
+    let mut p: usize = 0;
+    while p < 32 {
+        let a = 32 * p;
+        let e = a + 32;
+        let from = 7 * p;
+        let to = from + 7;
+        build_page(&mut charts[a..e], &cells[from..to]);
+        p += 1;
+    }
+}
+
+// A refusal changes nothing.
+fn refused(state: State, answer: Formatted) -> FormatOut
+    ensures { λ r. ⌜ r ≡ record { state = state; answer = answer; clears = false } ⌝ }
+{
+    FormatOut {
+        state: state,
+        answer: answer,
+        clears: false,
+    }
+}
+
+// `scopes` is the length of the lent scope table.
+pub fn format(
+    state: State,
+    cells: &[i32],
+    log: &mut [u8],
+    charts: &mut [u8],
+    copy: &mut [u8],
+    scopes: usize,
+) -> FormatOut
+    ensures { λ r. ⌜ ((table : List Scope) → length table ≡ scopes
+        → formatted r (now (log .exit)) (now (charts .exit)) (now (copy .exit)) table
+        ≡ formats (now (cells .entry)) (world state (now (log .entry)) (now (charts .entry)) (now (copy .entry)) table)) ⌝ }
+{
+    if !lengths_fit(log.len(), charts.len(), copy.len(), scopes) {
+        return refused(state, Formatted::WrongLength);
+    }
+    if cells.len() != 224 {
+        return refused(state, Formatted::WrongLength);
+    }
+    let c = bad_cell(cells);
+    if c < 224 {
+        return refused(state, Formatted::OutOfRange(Cell(c as u8)));
+    }
+    build_charts(charts, cells);
+    clear(log);
+    clear(copy);
+    let closed = closed_state();
+    FormatOut {
+        state: closed,
+        answer: Formatted::Done,
+        clears: true,
+    }
+}

@@ -1,0 +1,152 @@
+// Rows of the log that is checked are looked up: the row that an undo row names, and the change before that one in its scope.
+ghost use mathlib.Core.Path.{_≡_};
+ghost use lib.ListN.{length};
+ghost use Rattle.book.specs.Rows.{undoneBy};
+ghost use Rattle.book.specs.RowBytes.{rowOf};
+ghost use Rattle.rows.specs.Meaning.{meant, coded};
+ghost use Rattle.tables.specs.declared.Whom.the-variants.{One};
+ghost use Rattle.tables.specs.Entries.{scopeIn, entries};
+ghost use Rattle.tables.specs.Table.{Reaches};
+ghost use Rattle.tables.specs.Rows.{Ready, index};
+ghost use Rattle.tables.specs.Meaning.{isChangeBy, beforeLast, beforeFound, beforeHighest, beforeUndone};
+ghost use Rattle.recovery.specs.Scan.{rowIn};
+ghost use Rattle.recovery.specs.Checking.{Rows};
+use rows::Lsn;
+use rows::Row;
+use rows::Visit;
+use rows::numbers::wide;
+use rows::reader::row_in;
+use tables::Entry;
+use tables::Found;
+use tables::Tables;
+use tables::Whom;
+use tables::entries::entry_at;
+use tables::lookup::highest;
+
+// Row n, counted from 1, if it is one of the first k. Of no such row any will do.
+pub fn row_in_log(log: &[u8], k: usize, n: usize) -> Row
+    requires { ⌜ Rows (length (now log)) k ⌝ }
+    ensures { λ r. ⌜ r ≡ coded (rowIn (now (log .entry)) k n) ⌝ }
+{
+    if n == 0 {
+        return Row::Begin(Visit(0));
+    }
+    if k < n {
+        return Row::Begin(Visit(0));
+    }
+    let a = 16 * (n - 1);
+    let e = a + 16;
+    row_in(&log[a..e])
+}
+
+// The 16 bytes are a change of the cell by the maker: kind, visit and cell alone are looked at.
+fn is_change_by(b: &[u8], maker: u16, cell: u16) -> bool
+    requires { ⌜ length (now b) ≡ 16 ⌝ }
+    ensures { λ r. ⌜ r ≡ isChangeBy maker cell (rowOf (now (b .entry))) ⌝ }
+{
+    if b[0] != 2 {
+        return false;
+    }
+    if wide(b[1]) != maker {
+        return false;
+    }
+    wide(b[3]) == cell
+}
+
+// Row n is such a change.
+fn is_change_at(log: &[u8], k: usize, n: usize, maker: u16, cell: u16) -> bool
+    requires { ⌜ Rows (length (now log)) k ⌝ }
+    ensures { λ r. ⌜ r ≡ isChangeBy maker cell (rowIn (now (log .entry)) k n) ⌝ }
+{
+    if n == 0 {
+        return false;
+    }
+    if k < n {
+        return false;
+    }
+    let a = 16 * (n - 1);
+    let e = a + 16;
+    is_change_by(&log[a..e], maker, cell)
+}
+
+// The change before the scope's last one, 0 for none: a search downwards, to the scope's first row.
+fn before_last(log: &[u8], k: usize, s: Entry) -> Lsn
+    requires { ⌜ Rows (length (now log)) k ⌝ }
+    ensures { λ r. ⌜ r .0 ≡ beforeLast (rowIn (now (log .entry)) k) (scopeIn s) ⌝ }
+{
+    let mut n = s.last;
+    while 1 < n {
+        n -= 1;
+        if n < s.first {
+            return Lsn(0);
+        }
+        if is_change_at(log, k, n as usize, s.maker, s.cell) {
+            return Lsn(n);
+        }
+    }
+    Lsn(0)
+}
+
+// That of the entry found, 0 for none.
+fn before_found(log: &[u8], k: usize, scopes: &[u16], found: Found) -> Lsn
+    requires { ⌜ Rows (length (now log)) k ⌝ }
+    requires { ⌜ Reaches (length (now scopes)) found ⌝ }
+    ensures { λ r. ⌜ r .0 ≡ beforeFound (rowIn (now (log .entry)) k) found (entries (now (scopes .entry))) ⌝ }
+{
+    match found {
+        Found::At(i) => {
+            let s = entry_at(scopes, i);
+            before_last(log, k, s)
+        }
+        Found::Nothing => Lsn(0),
+    }
+}
+
+// That of the visit's highest open change.
+fn before_highest(log: &[u8], k: usize, t: Tables, scopes: &[u16], h: Visit) -> Lsn
+    requires { ⌜ Rows (length (now log)) k ⌝ }
+    requires { ⌜ Ready t (length (now scopes)) ⌝ }
+    ensures { λ r. ⌜ r .0 ≡ beforeHighest (rowIn (now (log .entry)) k) (One h) (index t (now (scopes .entry))) ⌝ }
+{
+    let found = highest(scopes, t.used, Whom::One(h));
+    before_found(log, k, scopes, found)
+}
+
+// What the tables need besides the row: of an undo row the change before the one undone in its scope, 0 for none.
+pub fn before_undone(log: &[u8], k: usize, t: Tables, scopes: &[u16], row: Row) -> Lsn
+    requires { ⌜ Rows (length (now log)) k ⌝ }
+    requires { ⌜ Ready t (length (now scopes)) ⌝ }
+    ensures { λ r. ⌜ r .0 ≡ beforeUndone (rowIn (now (log .entry)) k) (index t (now (scopes .entry))) (meant row) ⌝ }
+{
+    match row {
+        Row::Begin(_) => Lsn(0),
+        Row::Change(_, _, _) => Lsn(0),
+        Row::HandOver(_, _, _) => Lsn(0),
+        Row::Undo(h, _, _, _) => before_highest(log, k, t, scopes, h),
+        Row::Commit(_) => Lsn(0),
+        Row::Abort(_) => Lsn(0),
+    }
+}
+
+// The row that an undo row names, 0 for every other row.
+fn undone_by(row: Row) -> Lsn
+    ensures { λ r. ⌜ r .0 ≡ undoneBy (meant row) ⌝ }
+{
+    match row {
+        Row::Begin(_) => Lsn(0),
+        Row::Change(_, _, _) => Lsn(0),
+        Row::HandOver(_, _, _) => Lsn(0),
+        Row::Undo(_, _, n, _) => n,
+        Row::Commit(_) => Lsn(0),
+        Row::Abort(_) => Lsn(0),
+    }
+}
+
+// The row that this one undoes, among the first k.
+pub fn named_by(log: &[u8], k: usize, row: Row) -> Row
+    requires { ⌜ Rows (length (now log)) k ⌝ }
+    ensures { λ r. ⌜ r ≡ coded (rowIn (now (log .entry)) k (undoneBy (meant row))) ⌝ }
+{
+    let n = undone_by(row);
+    row_in_log(log, k, n.0 as usize)
+}

@@ -1,0 +1,155 @@
+// An opening from its checks to what it gives back and leaves; for whatever it is handed.
+ghost use mathlib.Core.Path.{_≡_};
+ghost use mathlib.Core.Bool.{true};
+ghost use mathlib.Core.List.{List};
+ghost use Prim.Native.Nat.{ℕ, _+_, _-_, _≤_};
+ghost use lib.ListN.{length, replicate};
+ghost use Rattle.book.specs.Opening.{noCopy};
+ghost use Rattle.state.specs.declared.ram.Scope.{Scope};
+ghost use Rattle.state.specs.World.{closedState};
+ghost use Rattle.undo.specs.Writing.{ram};
+ghost use Rattle.recovery.specs.Checking.{Recovers, found};
+ghost use Rattle.recovery.specs.Answering.{opened, world};
+ghost use Rattle.recovery.specs.Openings.{settledOpening, recoveredBy, checkedBy, opensBy};
+use crate::backward::backward;
+use crate::pages::bad_page;
+use crate::pages::redo;
+use crate::ram::closed_state;
+use crate::ram::lengths_fit;
+use crate::ram::opened_state;
+use crate::scan::LogScan;
+use crate::scan::scan_log;
+use journal::Control;
+use journal::writes::clear;
+use rows::Lsn;
+use state::answers::Opened;
+use state::ram::Fuse;
+use state::ram::Phase;
+use state::ram::State;
+
+// The state and the answer, and whether every entry of the lent scope table is to be unused.
+pub struct OpenOut {
+    pub state: State,
+    pub answer: Opened,
+    pub clears: bool,
+}
+
+// The store is closed, and the copy cleared.
+fn closed_by(copy: &mut [u8], answer: Opened) -> OpenOut
+    requires { ⌜ length (now copy) ≡ 1024 ⌝ }
+    ensures { λ r. ⌜ (r ≡ record { state = closedState; answer = answer; clears = true }) × (now (copy .exit) ≡ noCopy) ⌝ }
+{
+    clear(copy);
+    let state = closed_state();
+    OpenOut {
+        state: state,
+        answer: answer,
+        clears: true,
+    }
+}
+
+// The rows that an opening wrote after the first `rows`.
+fn rows_written(c: Control, rows: usize) -> u16
+    requires { ⌜ c .stored + c .waiting ≤ 4096 ⌝ }
+    ensures { λ r. ⌜ r ≡ c .stored + c .waiting - rows ⌝ }
+{
+    let all = c.stored + c.waiting;
+    if rows < all { (all - rows) as u16 } else { 0 }
+}
+
+// Ready, or the power failed on the way.
+fn settle(c: Control, rows: usize, begun: u16, tail: [u8; 1024], copy: &mut [u8]) -> OpenOut
+    requires { ⌜ c .stored + c .waiting ≤ 4096 ⌝ }
+    requires { ⌜ length (now copy) ≡ 1024 ⌝ }
+    ensures { λ r. ⌜ ((log charts : List ℕ) (table : List Scope) → opened r log charts (now (copy .exit)) table
+        ≡ settledOpening rows begun (ram c log tail (now (copy .entry))) charts) ⌝ }
+{
+    let phase = c.phase;
+    match phase {
+        Phase::Closed => {
+            return closed_by(copy, Opened::PowerFailed);
+        }
+        Phase::Open => {}
+    }
+    let n = rows_written(c, rows);
+    let state = opened_state(c, begun, tail);
+    OpenOut {
+        state: state,
+        answer: Opened::Ready(n),
+        clears: true,
+    }
+}
+
+// Of a log and charts that passed: the copy is loaded, forward page by page, then backward.
+fn recover(
+    fuse: Fuse,
+    s: LogScan,
+    log: &mut [u8],
+    charts: &[u8],
+    copy: &mut [u8],
+    scopes: &mut [u16],
+) -> OpenOut
+    requires { ⌜ Recovers s (length (now log)) (length (now copy)) (length (now scopes)) ⌝ }
+    requires { ⌜ length (now charts) ≡ 1024 ⌝ }
+    ensures { λ r. ⌜ ((table : List Scope) → opened r (now (log .exit)) (now (charts .entry)) (now (copy .exit)) table
+        ≡ recoveredBy fuse (now (log .entry)) (now (charts .entry)) (found s (now (scopes .entry)))) ⌝ }
+{
+    let rows = s.rows;
+    let t = s.tables;
+    let begun = t.begun;
+    let _n = bytes::copy(charts, copy);
+    redo(log, rows, copy);
+    let mut tail = [0; 1024];
+    let c = backward(fuse, s, log, &mut tail, copy, scopes);
+    settle(c, rows, begun, tail, copy)
+}
+
+// A bad row or a bad page closes the store and leaves log and charts as they are.
+fn open_scanned(
+    fuse: Fuse,
+    s: LogScan,
+    log: &mut [u8],
+    charts: &[u8],
+    copy: &mut [u8],
+    scopes: &mut [u16],
+) -> OpenOut
+    requires { ⌜ Recovers s (length (now log)) (length (now copy)) (length (now scopes)) ⌝ }
+    requires { ⌜ (s .bad ≤ 4096) × (length (now charts) ≡ 1024) ⌝ }
+    ensures { λ r. ⌜ ((table : List Scope) → opened r (now (log .exit)) (now (charts .entry)) (now (copy .exit)) table
+        ≡ checkedBy fuse (now (log .entry)) (now (charts .entry)) (found s (now (scopes .entry)))) ⌝ }
+{
+    let bad = s.bad;
+    if bad != 0 {
+        return closed_by(copy, Opened::BadRow(Lsn(bad as u16)));
+    }
+    let p = bad_page(log, s.rows, charts);
+    if p < 32 {
+        return closed_by(copy, Opened::BadPage(p as u8));
+    }
+    recover(fuse, s, log, charts, copy, scopes)
+}
+
+// `scopes` is the length of the lent scope table. Nothing is taken from the state, the copy or the table but lengths.
+pub fn open(
+    state: State,
+    log: &mut [u8],
+    charts: &[u8],
+    copy: &mut [u8],
+    scopes: usize,
+    fuse: Fuse,
+) -> OpenOut
+    ensures { λ r. ⌜ ((table : List Scope) → length table ≡ scopes
+        → opened r (now (log .exit)) (now (charts .entry)) (now (copy .exit)) table
+        ≡ opensBy fuse (world state (now (log .entry)) (now (charts .entry)) (now (copy .entry)) table)) ⌝ }
+{
+    if !lengths_fit(log.len(), charts.len(), copy.len(), scopes) {
+        return OpenOut {
+            state: state,
+            answer: Opened::WrongLength,
+            clears: false,
+        };
+    }
+    let mut flat = [0; 448];
+    let s = scan_log(log, &mut flat);
+    open_scanned(fuse, s, log, charts, copy, &mut flat)
+}

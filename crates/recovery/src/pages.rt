@@ -1,0 +1,167 @@
+// The check of the pages against the log, and the forward part of an opening, page by page.
+ghost use mathlib.Core.Path.{_≡_};
+ghost use mathlib.Core.Bool.{_||_};
+ghost use Prim.Native.Nat.{_+_, _-_, _*_, _/_, _≤_, _<_};
+ghost use lib.ListN.{length};
+ghost use lib.Dec.{eqb};
+ghost use Rattle.book.specs.Rows.{effect};
+ghost use Rattle.book.specs.RowBytes.{rowOf};
+ghost use Rattle.book.specs.Cells.{touches, onPage};
+ghost use Rattle.book.specs.Pages.{pageAt};
+ghost use Rattle.rows.specs.Meaning.{effectMeant};
+ghost use Rattle.recovery.specs.Scan.{rowIn};
+ghost use Rattle.recovery.specs.Checking.{Rows};
+ghost use Rattle.recovery.specs.Charts.{isPageBy, badPageBy, pageRedone, redoFrom, redoPage, redoCharts};
+ghost use Rattle.recovery.specs.Forward.{pageWith};
+use crate::look::row_in_log;
+use charts::check::page_ok;
+use charts::page::move_place;
+use charts::page::read_mark;
+use rows::Cell;
+use rows::Effect;
+use rows::Lsn;
+use rows::effects::effect_of;
+use rows::numbers::index;
+use rows::reader::row_in;
+
+// ── The check ─────────────────────────────────────────────────────────────────────────────────────────────────────────
+
+// The cell is on page p.
+fn is_on_page(c: Cell, p: usize) -> bool
+    ensures { λ r. ⌜ r ≡ eqb (c .0 / 7) p ⌝ }
+{
+    index(c.0) / 7 == p
+}
+
+// The effect is on a cell of page p.
+fn touches_page(effect: Effect, p: usize) -> bool
+    ensures { λ r. ⌜ r ≡ touches p (effectMeant effect) ⌝ }
+{
+    match effect {
+        Effect::Nothing => false,
+        Effect::Adds(c, _) => is_on_page(c, p),
+        Effect::Subtracts(c, _) => is_on_page(c, p),
+    }
+}
+
+// The mark is 0, or a change or undo row of page p.
+fn mark_ok(log: &[u8], rows: usize, p: usize, mark: Lsn) -> bool
+    requires { ⌜ Rows (length (now log)) rows ⌝ }
+    ensures { λ r. ⌜ r ≡ (eqb (mark .0) 0 || onPage p (rowIn (now (log .entry)) rows (mark .0))) ⌝ }
+{
+    if mark.0 == 0 {
+        return true;
+    }
+    let row = row_in_log(log, rows, mark.0 as usize);
+    touches_page(effect_of(row), p)
+}
+
+// Page p, by its bytes and the log.
+fn page_passes(log: &[u8], rows: usize, page: &[u8], p: usize) -> bool
+    requires { ⌜ Rows (length (now log)) rows ⌝ }
+    requires { ⌜ length (now page) ≡ 32 ⌝ }
+    ensures { λ r. ⌜ r ≡ isPageBy (now (log .entry)) rows p (now (page .entry)) ⌝ }
+{
+    let mark = read_mark(page);
+    let allowed = mark_ok(log, rows, p, mark);
+    page_ok(page, allowed)
+}
+
+// The first page that fails, or 32.
+pub fn bad_page(log: &[u8], rows: usize, charts: &[u8]) -> usize
+    requires { ⌜ Rows (length (now log)) rows ⌝ }
+    requires { ⌜ length (now charts) ≡ 1024 ⌝ }
+    ensures { λ r. ⌜ r ≡ badPageBy (now (log .entry)) rows (now (charts .entry)) ⌝ }
+{
+    let mut p: usize = 0;
+    while p < 32 {
+        let a = 32 * p;
+        let e = a + 32;
+        if page_passes(log, rows, &charts[a..e], p) {
+            p += 1;
+        } else {
+            return p;
+        }
+    }
+    p
+}
+
+// ── The forward part ──────────────────────────────────────────────────────────────────────────────────────────────────
+
+// The 16 bytes are a change or an undo of page p: kind and cell alone are looked at.
+fn is_row_of(b: &[u8], p: usize) -> bool
+    requires { ⌜ length (now b) ≡ 16 ⌝ }
+    ensures { λ r. ⌜ r ≡ onPage p (rowOf (now (b .entry))) ⌝ }
+{
+    if b[0] == 2 {
+        return is_on_page(Cell(b[3]), p);
+    }
+    if b[0] == 4 {
+        return is_on_page(Cell(b[3]), p);
+    }
+    false
+}
+
+// The effect of row n on the page of its cell.
+fn move_page(page: &mut [u8], effect: Effect, n: Lsn)
+    requires { ⌜ length (now page) ≡ 32 ⌝ }
+    ensures { λ _. ⌜ now (page .exit) ≡ pageWith (effectMeant effect) (n .0) (now (page .entry)) ⌝ }
+{
+    match effect {
+        Effect::Nothing => {}
+        Effect::Adds(c, a) => move_place(page, index(c.0) % 7, a, false, n),
+        Effect::Subtracts(c, a) => move_place(page, index(c.0) % 7, a, true, n),
+    }
+}
+
+// The effect of row n, 16 bytes, on page p.
+fn redo_row(b: &[u8], page: &mut [u8], p: usize, n: Lsn)
+    requires { ⌜ length (now b) ≡ 16 ⌝ }
+    requires { ⌜ length (now page) ≡ 32 ⌝ }
+    ensures { λ _. ⌜ now (page .exit) ≡ pageRedone p (effect (rowOf (now (b .entry)))) (n .0) (now (page .entry)) ⌝ }
+{
+    if is_row_of(b, p) {
+        let row = row_in(b);
+        move_page(page, effect_of(row), n);
+    }
+}
+
+// The rows from place `from` on, up to row `rows`, applied to page p.
+fn redo_rows(log: &[u8], from: usize, rows: usize, page: &mut [u8], p: usize)
+    requires { ⌜ Rows (length (now log)) rows ⌝ }
+    requires { ⌜ length (now page) ≡ 32 ⌝ }
+    ensures { λ _. ⌜ now (page .exit) ≡ redoFrom (rows - from) from (now (log .entry)) p (now (page .entry)) ⌝ }
+{
+    let mut k = from;
+    while k < rows {
+        let a = 16 * k;
+        let e = a + 16;
+        redo_row(&log[a..e], page, p, Lsn((k + 1) as u16));
+        k += 1;
+    }
+}
+
+// The rows above the page's mark.
+fn redo_page(log: &[u8], rows: usize, page: &mut [u8], p: usize)
+    requires { ⌜ Rows (length (now log)) rows ⌝ }
+    requires { ⌜ length (now page) ≡ 32 ⌝ }
+    ensures { λ _. ⌜ now (page .exit) ≡ redoPage (now (log .entry)) rows p (now (page .entry)) ⌝ }
+{
+    let mark = read_mark(page);
+    redo_rows(log, mark.0 as usize, rows, page, p);
+}
+
+// All pages of the copy.
+pub fn redo(log: &[u8], rows: usize, copy: &mut [u8])
+    requires { ⌜ Rows (length (now log)) rows ⌝ }
+    requires { ⌜ length (now copy) ≡ 1024 ⌝ }
+    ensures { λ _. ⌜ now (copy .exit) ≡ redoCharts (now (log .entry)) rows (now (copy .entry)) ⌝ }
+{
+    let mut p: usize = 0;
+    while p < 32 {
+        let a = 32 * p;
+        let e = a + 32;
+        redo_page(log, rows, &mut copy[a..e], p);
+        p += 1;
+    }
+}

@@ -1,0 +1,166 @@
+// The check of a log, row by row: each row is decoded once, judged by the tables, and applied to them; zero bytes follow the last.
+ghost use mathlib.Core.Path.{_≡_};
+ghost use Prim.Native.Nat.{_-_, _≤_};
+ghost use lib.ListN.{length};
+ghost use Rattle.rows.specs.Meaning.{meant};
+ghost use Rattle.book.specs.Rows.{undoneBy};
+ghost use Rattle.tables.specs.Rows.{Ready, index, judgeBy};
+ghost use Rattle.recovery.specs.Scan.{rowIn, ruled, judgeRow, scanFrom, firstSet, scanned};
+ghost use Rattle.recovery.specs.Checking.{Rows, Next, judgement, found};
+ghost use Rattle.recovery.specs.Openings.{noIndex};
+use crate::Judged;
+use crate::look::before_undone;
+use crate::look::named_by;
+use rows::Lsn;
+use rows::Read;
+use rows::Row;
+use rows::reader::is_blank;
+use rows::reader::read_row;
+use tables::Tables;
+use tables::Verdict;
+use tables::entries::clear;
+use tables::rules::judge;
+use tables::steps::step;
+use tables::visits::no_tables;
+
+// What one row comes to, and the visits after it.
+pub struct JudgedRow {
+    pub judged: Judged,
+    pub tables: Tables,
+}
+
+// What the check of a log found: so many rows, the first bad row, 0 for none, and the visits after the rows.
+pub struct LogScan {
+    pub rows: usize,
+    pub bad: usize,
+    pub tables: Tables,
+}
+
+// A row that the rules allow is applied to the tables.
+fn take_row(log: &[u8], k: usize, t: Tables, scopes: &mut [u16], row: Row) -> JudgedRow
+    requires { ⌜ Next (length (now log)) k ⌝ }
+    requires { ⌜ Ready t (length (now scopes)) ⌝ }
+    ensures { λ r. ⌜ judgement r (now (scopes .exit)) ≡ ruled (now (log .entry)) k (index t (now (scopes .entry))) (meant row)
+        (judgeBy (index t (now (scopes .entry))) k (rowIn (now (log .entry)) k (undoneBy (meant row))) (meant row)) ⌝ }
+{
+    let named = named_by(log, k, row);
+    let verdict = judge(t, scopes, k, row, named);
+    match verdict {
+        Verdict::Allowed => {
+            let before = before_undone(log, k, t, scopes, row);
+            let next = step(t, scopes, Lsn((k + 1) as u16), row, before);
+            JudgedRow {
+                judged: Judged::Taken,
+                tables: next,
+            }
+        }
+        Verdict::Unlawful => JudgedRow {
+            judged: Judged::Bad,
+            tables: t,
+        },
+        Verdict::OverLimit => JudgedRow {
+            judged: Judged::Bad,
+            tables: t,
+        },
+    }
+}
+
+// Row k + 1, after k rows.
+fn judge_row(log: &[u8], k: usize, t: Tables, scopes: &mut [u16]) -> JudgedRow
+    requires { ⌜ Next (length (now log)) k ⌝ }
+    requires { ⌜ Ready t (length (now scopes)) ⌝ }
+    ensures { λ r. ⌜ judgement r (now (scopes .exit)) ≡ judgeRow (now (log .entry)) k (index t (now (scopes .entry))) ⌝ }
+{
+    let a = 16 * k;
+    let e = a + 16;
+    let read = read_row(&log[a..e], Lsn((k + 1) as u16));
+    match read {
+        Read::Valid(row) => take_row(log, k, t, scopes, row),
+        Read::Blank => JudgedRow {
+            judged: Judged::Ends,
+            tables: t,
+        },
+        Read::Malformed => JudgedRow {
+            judged: Judged::Bad,
+            tables: t,
+        },
+    }
+}
+
+// The rows up to the first that is blank or bad.
+fn scan_rows(log: &[u8], first: Tables, scopes: &mut [u16]) -> LogScan
+    requires { ⌜ length (now log) ≡ 65536 ⌝ }
+    requires { ⌜ Ready first (length (now scopes)) ⌝ }
+    ensures { λ r. ⌜ found r (now (scopes .exit)) ≡ scanFrom 4096 0 (now (log .entry)) (index first (now (scopes .entry))) ⌝ }
+{
+    let mut t = first;
+    let mut k: usize = 0;
+    while k < 4096 {
+        let r = judge_row(log, k, t, scopes);
+        let judged = r.judged;
+        let next = r.tables;
+        match judged {
+            Judged::Taken => {
+                t = next;
+                k += 1;
+            }
+            Judged::Ends => {
+                return LogScan {
+                    rows: k,
+                    bad: 0,
+                    tables: next,
+                };
+            }
+            Judged::Bad => {
+                return LogScan {
+                    rows: k,
+                    bad: k + 1,
+                    tables: next,
+                };
+            }
+        }
+    }
+    LogScan {
+        rows: k,
+        bad: 0,
+        tables: t,
+    }
+}
+
+// The first row from place k on that is not blank, counted from 1; 0 for none.
+fn first_set(log: &[u8], k: usize) -> usize
+    requires { ⌜ length (now log) ≡ 65536 ⌝ }
+    ensures { λ r. ⌜ r ≡ firstSet (4096 - k) k (now (log .entry)) ⌝ }
+{
+    let mut i = k;
+    while i < 4096 {
+        let a = 16 * i;
+        let e = a + 16;
+        if is_blank(&log[a..e]) {
+            i += 1;
+        } else {
+            return i + 1;
+        }
+    }
+    0
+}
+
+// The whole log: all rows, then zero bytes to the end. The scope table is cleared first.
+pub fn scan_log(log: &[u8], scopes: &mut [u16]) -> LogScan
+    requires { ⌜ length (now log) ≡ 65536 ⌝ }
+    requires { ⌜ length (now scopes) ≡ 448 ⌝ }
+    ensures { λ r. ⌜ found r (now (scopes .exit)) ≡ scanned (now (log .entry)) noIndex ⌝ }
+{
+    clear(scopes);
+    let s = scan_rows(log, no_tables(), scopes);
+    if s.bad == 0 {
+        let bad = first_set(log, s.rows);
+        let t = s.tables;
+        return LogScan {
+            rows: s.rows,
+            bad: bad,
+            tables: t,
+        };
+    }
+    s
+}
