@@ -17,7 +17,7 @@ use Rattle.state.specs.World.{World, rightLengths, allowance}
 use Rattle.state.specs.Contracts.{Result, result, formats, FormatPost, OpenPost}
 use Rattle.recovery.specs.Openings.{opensBy}
 use Rattle.recovery.proofs.Post.{opens-by}
-use Rattle.cores.specs.Lent.{world, blanks, cleared, pick, ByLength}
+use Rattle.cores.specs.Lent.{world, blanks, cleared, ByLength}
 
 -- a table of another length than 64 is a wrong length
 wrong-table : (w : World) → eqb (length (w .scopes)) scopeLimit ≡ false → rightLengths w ≡ false
@@ -49,7 +49,7 @@ module _ (s : State) (log charts copy : List ℕ) (n : ℕ) (a : Answer) (c : Bo
       stays h = ap (λ (r : Result). r .world .scopes) (e ∙ apart (world s log charts copy ys) h)
 
       same : (t : Bool) → eqb (length ys) scopeLimit ≡ t → (d : Bool) → (eqb (length ys) scopeLimit ≡ false → cond d blanks ys ≡ ys)
-          → pick d (pick t blanks ys) ys ≡ cond d blanks ys
+          → cond d (cond t blanks ys) ys ≡ cond d blanks ys
       same true h true k = refl
       same true h false k = refl
       same false h true k = sym (k h)

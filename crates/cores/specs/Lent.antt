@@ -1,6 +1,6 @@
 -- The world of a call's state and lent buffers, and what the core of a call promises, which has the scope table by value or has no use for it.
 use Prim.Native.Nat.{ℕ}
-use mathlib.Core.Bool.{Bool, true, false}
+use mathlib.Core.Bool.{Bool, cond}
 use mathlib.Core.Path.{_≡_}
 use mathlib.Core.Logic.{_≢_}
 use mathlib.Core.List.{List}
@@ -22,13 +22,9 @@ zeroScope = scopeOf unused
 abbrev pub blanks : List Scope
 blanks = replicate scopeLimit zeroScope
 
-abbrev pub pick : {X : Type 0} → Bool → X → X → X
-pick true a b = a
-pick false a b = b
-
 -- what a call leaves that has no use for the table: the table as it is, or, where the call clears RAM, every entry unused
 abbrev pub cleared : List Scope → Bool → List Scope
-cleared xs cut = pick cut (pick (eqb (length xs) scopeLimit) blanks xs) xs
+cleared xs cut = cond cut (cond (eqb (length xs) scopeLimit) blanks xs) xs
 
 -- The promise P of a call as its core keeps it. The core has the number n of entries that are lent, and the table by value, of 64 entries.
 -- At 64 entries the two tables are the lent one before and after; at any other number the lent table stays.

@@ -1,0 +1,17 @@
+pub mod Bridge
+pub mod BridgeCells
+pub mod Callees
+pub mod Calling
+pub mod Elem
+pub mod Ends
+pub mod Fill
+pub mod Local
+pub mod Locals
+pub mod Parts
+pub mod Plain
+pub mod Promised
+pub mod Shared
+pub mod TheCalls
+pub mod Thin
+pub mod ThinClear
+pub mod ThinClearCells

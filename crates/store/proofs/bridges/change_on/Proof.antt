@@ -1,0 +1,25 @@
+-- `store::bridges::change_on` meets its contract, by `Bridge`.
+-- Assumes nothing.
+use contract.Running.{givenOf, tables, tablesOf}
+use denote.Triple.Spec.{tripleOf}
+use denote.Triple.Table.{entered, cited}
+use Rattle.cores.proofs.outs.out_of_change.Met as out-met
+use Rattle.cores.proofs.outs.out_of_change.Symbol as out-def
+use Rattle.store.proofs.Bridge.{bridge-meets}
+use Rattle.store.proofs.Parts.{Both}
+use Rattle.store.proofs.Promised.{Promise}
+use Rattle.store.proofs.TheCalls.Change.{args, call, on}
+use Rattle.store.proofs.bridges.change_on as this
+use Rattle.store.proofs.bridges.change_on.Code as code
+use Rattle.store.proofs.bridges.change_on.Key.{name as key}
+use Rattle.store.proofs.bridges.change_on.Statement as stated
+use Rattle.store.proofs.public.change.Met as call-met
+use Rattle.store.proofs.public.change.Symbol as call-def
+
+pub change-on-spec : {M : Type 1} → stated.statement M
+unfolding code.routine tablesOf
+change-on-spec 𝓤 H 𝓜 𝓖 𝓡 =
+    entered 𝓤 H (tripleOf 𝓤 H (𝓖 .A) this.signature (this.spec 𝓤 H (𝓖 .A) (𝓜 .mem) (𝓡 .run))) (tables 𝓤 H 𝓜 𝓡 code.env .C) (tables 𝓤 H 𝓜 𝓡 code.env .Λ) key code.function (code.unfolded 𝓤 H 𝓜 𝓡)
+    (bridge-meets args call on 𝓤 H (𝓖 .A) (givenOf 𝓤 H 𝓜 𝓖) (tablesOf 𝓤 H 𝓜 (tables 𝓤 H 𝓜 𝓡 code.env))
+    (cited 𝓤 H (Promise args call 𝓤 H (𝓖 .A)) 𝓜 𝓡 code.env call-def.name call-def.routine code.calls-store·public·change (call-met.met 𝓤 H 𝓜 𝓖 𝓡))
+    (cited 𝓤 H (Both (call .result) (on .out) (on .out-of) 𝓤 H (𝓖 .A)) 𝓜 𝓡 code.env out-def.name out-def.routine code.calls-cores·outs·out-of-change (out-met.met 𝓤 H 𝓜 𝓖 𝓡)))
