@@ -272,7 +272,7 @@ use denote.Triple.Walked.{{{imp(['says','Stays','stay-none','stay-dropped' if ce
 use denote.Exit.{{yes}}
 use Rattle.state.specs.declared.ram.State.{{State}}
 use Rattle.state.specs.declared.ram.Scope.{{Scope}}
-{'use Rattle.state.specs.Lent.{cleared}' if clear else 'use Rattle.store.specs.Table.{loaded, stored}'}
+{'use Rattle.cores.specs.Lent.{cleared}' if clear else 'use Rattle.store.specs.Table.{loaded, stored}'}
 use Rattle.store.proofs.Callees.{{{'' if clear else 'load-name, Load, '}{lo}-name, {C}}}
 use Rattle.store.proofs.Calling.{{calls-known}}
 use Rattle.store.proofs.Elem.{{{'R' if clear else 'R, Tb, tvals, t-tells, t-made, t-typed, t-known'}}}
