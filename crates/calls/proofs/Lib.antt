@@ -1,5 +1,4 @@
 -- The functions are their mirror: what their proofs cite.
-pub mod CountersKept
 mod NoRefusal
 mod CallSteps
 mod Crossings
