@@ -15,8 +15,7 @@ use Rattle.book.specs.Numbers.{within}
 use Rattle.book.specs.LogBytes.{logBytes}
 use Rattle.book.specs.Pages.{chartBytes, pageAfter}
 use Rattle.book.proofs.Lists.{and-r}
-use Rattle.book.proofs.Blocks.{first-all}
-use Rattle.state.proofs.FirstFailing.{first-le}
+use Rattle.book.proofs.Blocks.{first-all, first-within}
 use Rattle.book.proofs.Pages.{Bounded, within-abs}
 use Rattle.state.specs.World.{World, rightLengths, stateOf, tableOf, copyOf, cleared, worldOf, Charts}
 use Rattle.state.specs.Contracts.{Result, result, badCell, cellsOf, formats, FormatPost}
@@ -40,7 +39,7 @@ small-cells values long good c = go (ltb c cellLimit) refl
     go : (t : Bool) → ltb c cellLimit ≡ t → natAbs (cellsOf values c) ≤ 1000000
     go true e =
         let k = ltb-true c cellLimit e in
-        let m = first-le cellLimit 0 (λ i. within formatBound (cellsOf values i)) in
+        let m = first-within cellLimit 0 (λ i. within formatBound (cellsOf values i)) in
         within-abs formatBound (cellsOf values c)
         (first-all cellLimit 0 (λ i. within formatBound (cellsOf values i)) (omega arith) c (omega arith) (omega arith))
     go false e = let k = ltb-false c cellLimit e in rw (List·getD-eq-default values (pos 0) {n = c} (omega arith)) (omega arith)

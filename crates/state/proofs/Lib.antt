@@ -1,4 +1,3 @@
-mod FirstFailing
 pub mod Lengths
 pub mod StoredCharts
 pub mod FormattedStores

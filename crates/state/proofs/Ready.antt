@@ -30,7 +30,7 @@ use Rattle.book.proofs.Flush.{mark-le}
 use Rattle.book.proofs.AnyCharts.{AreBytes, marksOf, baseOf, marked-any, base-bounded, charts-any}
 use Rattle.state.specs.World.{World, rightLengths, worldOf, Charts, Represents}
 use Rattle.state.specs.Contracts.{Result, OpenPost, opens}
-use Rattle.state.proofs.FirstFailing.{first-le}
+use Rattle.book.proofs.Blocks.{first-within}
 use Rattle.state.proofs.StoredCharts.{charts-kept}
 use Rattle.state.proofs.OpenedStores.{opens-bytes, opens-book, opens-refused}
 use Rattle.state.proofs.Kept.{represents-world}
@@ -56,7 +56,7 @@ accepted f log charts long = go (readLog log) refl
         pages true q z = absurd (omega arith)
         pages false q z =
             let x = log-exact log rs long e in
-            let k = ltb-false (badPage rs charts) pageLimit q in let m = first-le pageLimit 0 (λ p. isPage rs p (pageAt charts p)) in
+            let k = ltb-false (badPage rs charts) pageLimit q in let m = first-within pageLimit 0 (λ p. isPage rs p (pageAt charts p)) in
             record { rows = rs; allowed = x .0; is = x .1; good = omega arith }
 
 -- ── The charts that it found ──────────────────────────────────────────────────────────────────────────────────────────
