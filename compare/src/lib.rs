@@ -1,8 +1,8 @@
-//! The chart store of document 01, twice, and the comparison of the two.
+//! The chart store of document 01, written twice in Rust, and the comparison of the proved store with both.
 //!
-//! `paper` is document 01 rendered as literally as possible; `fast` is an efficient store. The
-//! comparison gives both the same calls and expects the same answers and the same bytes after each of
-//! them. It knows a store only by the trait `Store`, so that further implementations can take part.
+//! `paper` is document 01 rendered as literally as possible; `fast` is an efficient store; `proved` is the
+//! proved one. The comparison gives all the same calls and expects the same answers and the same bytes
+//! after each of them. It knows a store only by the trait `Store`.
 
 pub mod adapters;
 pub mod arena;
@@ -14,6 +14,7 @@ pub mod fast;
 pub mod observe;
 pub mod paper;
 pub mod prng;
+pub mod proved;
 pub mod report;
 pub mod runfile;
 pub mod shrink;

@@ -12,13 +12,14 @@ use compare::adapters::FastStore;
 use compare::arena::Maker;
 use compare::bench::{Bench, Failure};
 use compare::cases::{Part, PARTS};
+use compare::proved::ProvedStore;
 use compare::report;
 use compare::shrink::shrink;
 use std::process::ExitCode;
 use std::time::{Duration, Instant};
 
 /// The implementations that are compared with the paper. A further one is added here.
-const MAKERS: [Maker; 1] = [|| Box::new(FastStore::new())];
+const MAKERS: [Maker; 2] = [|| Box::new(FastStore::new()), || Box::new(ProvedStore::new())];
 
 struct Arguments {
     long: bool,

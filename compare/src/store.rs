@@ -18,6 +18,12 @@ pub struct Lengths {
 /// The lengths of document 01.
 pub const RIGHT: Lengths = Lengths { log: 65_536, charts: 1_024, copy: 1_024, scopes: 64 };
 
+impl Default for Lengths {
+    fn default() -> Lengths {
+        RIGHT
+    }
+}
+
 /// Cells that a format takes.
 pub const CELLS: usize = 224;
 

@@ -1,0 +1,33 @@
+-- What a run file comes to: the lines of the book's answers, on a store formatted at zeros.
+use Prim.Native.Nat.{ℕ, suc}
+use mathlib.Core.Bool.{true, cond}
+use mathlib.Core.List.{List, [], _∷_, _++_, map}
+use lib.IntN.{ℤ, pos}
+use Rattle.book.specs.Power.{Book, formatted}
+use Rattle.book.specs.Book.{Answer}
+use Rattle.book.specs.Events.{Event, opens, calls, answers, bookAfter}
+use Rattle.runfile.specs.File.{Asked, isRunFile, sessionsIn}
+use Rattle.runfile.specs.Lines.{line, faultLine}
+
+-- 01: relog formats zeros
+abbrev pub zeros : ℕ → ℤ
+zeros c = pos 0
+
+-- a session as the book sees it
+abbrev pub eventsOf : Asked → List Event
+eventsOf s = opens true (s .fuse) ∷ map (calls true) (s .calls)
+
+-- the lines of a session's answers, from this call on
+abbrev pub linesFrom : ℕ → ℕ → List Answer → List ℕ
+linesFrom session call [] = []
+linesFrom session call (a ∷ rest) = line session call a ++ linesFrom session (suc call) rest
+
+-- the lines of sessions, the first of which has this number and starts at this book
+abbrev pub runLines : ℕ → Book → List Asked → List ℕ
+runLines session b [] = []
+runLines session b (s ∷ ss) =
+    linesFrom session 0 (answers zeros b (eventsOf s)) ++ runLines (suc session) (bookAfter zeros b (eventsOf s)) ss
+
+-- 01: the output for a file; for anything else than a run file the line `15` alone
+unfoldable pub linesOf : List ℕ → List ℕ
+linesOf file = cond (isRunFile file) (runLines 1 formatted (sessionsIn file)) faultLine
