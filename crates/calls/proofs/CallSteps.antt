@@ -1,18 +1,17 @@
 -- What the parts of an accepted call come to: a row with the tables after it, a force, a take-back, a flush. Assumes nothing.
 use Prim.Native.Nat.{ℕ, suc}
-use mathlib.Core.Path.{_≡_, refl, sym, _∙_}
+use mathlib.Core.Path.{_≡_, refl}
 use mathlib.Core.List.{List}
 use lib.IntN.{ℤ}
 use Rattle.book.specs.Rows.{Row}
 use Rattle.book.specs.Calls.{Call}
-use Rattle.book.specs.Pages.{pageAt, cellOf}
-use Rattle.tables.specs.declared.Whom.the-variants.{One}
-use Rattle.tables.specs.Rows.{Index, stepBy}
-use Rattle.journal.specs.declared.Control.{Control}
+use Rattle.book.specs.Pages.{pageAt}
+use Rattle.tables_model.specs.declared.Whom.the-variants.{One}
+use Rattle.tables_model.specs.Rows.{Index, stepBy}
 use Rattle.journal.specs.Journal.{Journal, forced, forcedUpTo, Paged, paged}
 use Rattle.undo.specs.Writing.{Ram, rowCount, written}
 use Rattle.undo.specs.TakeBack.{Taking, fallAll}
-use Rattle.calls.specs.Acts.{Core, withRam, forcedRam, fell, flushCount, acted, valueBy, valueNow}
+use Rattle.calls_model.specs.Acts.{Core, flushCount, acted, valueBy, valueNow}
 
 -- the parts of what a call works on
 abbrev pub indexIn : Core → Index

@@ -9,7 +9,7 @@ use lib.Dec.{leb}
 use borrow.Author.Tests.{leb-true}
 use Rattle.book.specs.Calls.{Call}
 use Rattle.book.specs.Rows.{Row}
-use Rattle.tables.specs.declared.Whom.the-variants.{One}
+use Rattle.tables_model.specs.declared.Whom.the-variants.{One}
 use Rattle.state.specs.declared.ram.Phase.{Phase}
 use Rattle.state.specs.declared.ram.Phase.the-variants.{Open, Closed}
 use Rattle.state.specs.declared.ram.Fuse.{Fuse}
@@ -24,7 +24,7 @@ use Rattle.journal.specs.Journal.{Journal, forced, forcedUpTo, spent, pagedIf, 
 use Rattle.journal.proofs.Room.{chunks-count}
 use Rattle.undo.specs.Writing.{rowCount}
 use Rattle.undo.proofs.Counters.{Counters, counters-written, counters-fallAll}
-use Rattle.calls.specs.Acts.{Core, acted, fell, upToMark, flushCount}
+use Rattle.calls_model.specs.Acts.{Core, acted, fell, upToMark, flushCount}
 
 -- ── A run of stored writes ────────────────────────────────────────────────────────────────────────────────────────────
 

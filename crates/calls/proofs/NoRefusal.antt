@@ -8,9 +8,9 @@ use borrow.Author.Tests.{leb-false, ltb-true, not-false}
 use Rattle.book.specs.Rows.{isCell}
 use Rattle.book.specs.Calls.{Call}
 use Rattle.book.specs.Book.{_else_}
-use Rattle.tables.specs.Visits.{isListed}
-use Rattle.tables.specs.Rows.{Index, hasEntry}
-use Rattle.calls.specs.Refusals.{refusalBy}
+use Rattle.tables_model.specs.Visits.{isListed}
+use Rattle.tables_model.specs.Rows.{Index, hasEntry}
+use Rattle.calls_model.specs.Refusals.{refusalBy}
 
 passed : (n : ℕ) (test : Bool) (later : ℕ) → ((suc n, test) else later) ≡ 0 → (test ≡ false) × (later ≡ 0)
 passed n true later e = absurd (omega arith)

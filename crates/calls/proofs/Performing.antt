@@ -9,16 +9,16 @@ use lib.Dec.{leb, eqb}
 use borrow.Author.Tests.{leb-true, eq-eqb}
 use Rattle.book.specs.Calls.{Call}
 use Rattle.book.proofs.Lists.{and-l, and-r}
-use Rattle.tables.specs.Visits.{InRange}
-use Rattle.tables.specs.Entries.{entries}
+use Rattle.tables_model.specs.Visits.{InRange}
+use Rattle.tables_model.specs.Entries.{entries}
 use Rattle.state.specs.declared.ram.Phase.the-variants.{Open, Closed}
 use Rattle.state.specs.declared.ram.State.{State}
 use Rattle.state.specs.declared.ram.Scope.{Scope}
 use Rattle.state.specs.World.{World, rightLengths, cleared}
 use Rattle.state.specs.Contracts.{result}
-use Rattle.calls.specs.Acts.{Core, core, acted, valueBy, valueNow}
-use Rattle.calls.specs.Refusals.{refusalBy}
-use Rattle.calls.specs.Perform.{isCoherent, entryIn, structOf, controlIn, coreOf, worldIn, settled, decided, numberOf, performed, performedAt, world, stateAfter, accepted, Lent}
+use Rattle.calls_model.specs.Acts.{Core, core, acted, valueBy, valueNow}
+use Rattle.calls_model.specs.Refusals.{refusalBy}
+use Rattle.calls_model.specs.Perform.{isCoherent, entryIn, structOf, controlIn, coreOf, worldIn, settled, decided, numberOf, performed, performedAt, world, stateAfter, accepted, Lent}
 
 -- ── The counters ──────────────────────────────────────────────────────────────────────────────────────────────────────
 

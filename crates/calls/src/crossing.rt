@@ -2,15 +2,15 @@
 ghost use mathlib.Core.Path.{_≡_};
 ghost use mathlib.Core.List.{map};
 ghost use lib.ListN.{length};
-ghost use Rattle.tables.specs.Entries.{flatLength, scopeIn, entries};
-ghost use Rattle.calls.specs.Perform.{entryIn, structOf};
+ghost use Rattle.tables_model.specs.Entries.{flatLength, scopeIn, entries};
+ghost use Rattle.calls_model.specs.Perform.{entryIn, structOf};
 use rows::Cell;
 use rows::Lsn;
 use rows::Visit;
 use state::ram::Scope;
-use tables::Entry;
 use tables::entries::entry_at;
 use tables::entries::put_entry;
+use tables_model::Entry;
 
 fn entry_of(s: Scope) -> Entry
     ensures { λ r. ⌜ scopeIn r ≡ entryIn s ⌝ }

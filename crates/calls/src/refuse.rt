@@ -6,11 +6,11 @@ ghost use lib.ListN.{length};
 ghost use Rattle.book.specs.Book.{_else_};
 ghost use Rattle.book.specs.Calls.{Call};
 ghost use Rattle.book.specs.Rows.{isCell};
-ghost use Rattle.tables.specs.Visits.{InRange, isListed};
-ghost use Rattle.tables.specs.Rows.{Ready, index, hasEntry};
-ghost use Rattle.calls.specs.Refusals.{refusalBy};
-ghost use Rattle.calls.specs.Requests.{callOf};
-use crate::Request;
+ghost use Rattle.tables_model.specs.Visits.{InRange, isListed};
+ghost use Rattle.tables_model.specs.Rows.{Ready, index, hasEntry};
+ghost use Rattle.calls_model.specs.Refusals.{refusalBy};
+ghost use Rattle.calls_model.specs.Requests.{callOf};
+use calls_model::Request;
 use rows::Cell;
 use rows::Visit;
 use rows::ranges::is_cell;
@@ -19,11 +19,11 @@ use state::arguments::EndArgs;
 use state::arguments::FlushArgs;
 use state::arguments::HandOverArgs;
 use state::arguments::ReadArgs;
-use tables::Tables;
 use tables::lookup::holds_cell;
 use tables::rules::grows_scope;
 use tables::rules::has_room;
 use tables::visits::is_listed;
+use tables_model::Tables;
 
 fn refuse_begin(t: Tables, scopes: &[u16], rows: usize) -> u8
     requires { ⌜ Ready t (length (now scopes)) ⌝ }

@@ -15,8 +15,8 @@ use Rattle.state.specs.declared.ram.State.{State}
 use Rattle.state.specs.declared.ram.Scope.{Scope}
 use Rattle.state.specs.World.{World, rightLengths, allowance}
 use Rattle.state.specs.Contracts.{Result, result, formats, FormatPost, OpenPost}
-use Rattle.recovery.specs.Openings.{opensBy}
-use Rattle.recovery.proofs.Post.{opens-by}
+use Rattle.recovery_model.specs.Openings.{opensBy}
+use Rattle.recovery_model.proofs.Post.{opens-by}
 use Rattle.cores.specs.Lent.{world, blanks, cleared, ByLength}
 
 -- a table of another length than 64 is a wrong length

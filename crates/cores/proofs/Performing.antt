@@ -19,10 +19,10 @@ use Rattle.state.specs.declared.ram.State.{State}
 use Rattle.state.specs.declared.ram.Scope.{Scope}
 use Rattle.state.specs.World.{World}
 use Rattle.state.specs.Contracts.{Result, result, numbers, CallPost}
-use Rattle.calls.specs.Perform.{performed, performedAt}
-use Rattle.calls.proofs.AnyWorld.{number-listed, wrong-lengths}
-use Rattle.calls.proofs.Values.{UpTo, Returned, performed-valued}
-use Rattle.calls.proofs.Post.{performed-post}
+use Rattle.calls_model.specs.Perform.{performed, performedAt}
+use Rattle.calls_model.proofs.AnyWorld.{number-listed, wrong-lengths}
+use Rattle.calls_model.proofs.Values.{UpTo, Returned, performed-valued}
+use Rattle.calls_model.proofs.Post.{performed-post}
 use Rattle.cores.specs.Answered.{Word, Answered, Fitting}
 use Rattle.cores.specs.Lent.{world, ByValue}
 

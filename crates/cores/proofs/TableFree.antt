@@ -20,17 +20,17 @@ use Rattle.book.specs.Book.{Answer, Outcome, answer, refused, refusal, adds, th
 use Rattle.book.specs.Opening.{noCopy}
 use Rattle.book.proofs.Adds.{passes}
 use Rattle.book.proofs.Steps.{extends-through}
-use Rattle.tables.specs.Meaning.{scopeTable}
+use Rattle.tables_model.specs.Meaning.{scopeTable}
 use Rattle.state.specs.declared.ram.State.{State}
 use Rattle.state.specs.declared.ram.Scope.{Scope}
 use Rattle.state.specs.World.{World, isOpenPhase, scopeOf, tableOf, worldOf, Represents}
 use Rattle.state.specs.World as worlds
 use Rattle.state.specs.Contracts.{Result, result, byBook, CallPost}
 use Rattle.undo.specs.Writing.{isRunning}
-use Rattle.calls.specs.Refusals.{refusalBy}
-use Rattle.calls.specs.Acts.{Core, acted, valueBy}
-use Rattle.calls.specs.Perform.{entryIn, structOf, coreOf, worldIn, settled, decided, numberOf, performed, performedAt}
-use Rattle.calls.proofs.Post.{performed-post}
+use Rattle.calls_model.specs.Refusals.{refusalBy}
+use Rattle.calls_model.specs.Acts.{Core, acted, valueBy}
+use Rattle.calls_model.specs.Perform.{entryIn, structOf, coreOf, worldIn, settled, decided, numberOf, performed, performedAt}
+use Rattle.calls_model.proofs.Post.{performed-post}
 use Rattle.cores.specs.Lent.{world, zeroScope, blanks, cleared, ByLength}
 use Rattle.cores.proofs.Performing.{Kept, kept-apart}
 

@@ -27,8 +27,8 @@ use store::bridges::format_on;
 use store::bridges::hand_over_on;
 use store::bridges::open_on;
 use store::bridges::read_on;
-use tables::Active;
-use tables::Tables;
+use tables_model::Active;
+use tables_model::Tables;
 
 // A state of no meaning: an opening takes nothing from it.
 fn anything() -> State {

@@ -8,11 +8,11 @@ use lib.ListN.{getD, length}
 use Rattle.book.specs.Rows.{Row}
 use Rattle.state.specs.declared.ram.Fuse.{Fuse}
 use Rattle.state.specs.declared.ram.Fuse.the-variants.{Unlimited, Left}
-use Rattle.tables.specs.declared.Active.{Active}
-use Rattle.tables.specs.declared.Tables.{Tables}
-use Rattle.tables.specs.Visits.{vacant}
-use Rattle.tables.specs.declared.Whom.the-variants.{All}
-use Rattle.tables.specs.Rows.{Index}
+use Rattle.tables_model.specs.declared.Active.{Active}
+use Rattle.tables_model.specs.declared.Tables.{Tables}
+use Rattle.tables_model.specs.Visits.{vacant}
+use Rattle.tables_model.specs.declared.Whom.the-variants.{All}
+use Rattle.tables_model.specs.Rows.{Index}
 use Rattle.journal.specs.declared.Control.{Control}
 use Rattle.journal.specs.declared.force.Run.{Run}
 use Rattle.journal.specs.Writes.{putRow}
@@ -22,7 +22,7 @@ use Rattle.journal.proofs.Room.{chunks-count}
 use Rattle.undo.specs.Writing.{Ram, written}
 use Rattle.undo.specs.TakeBack.{Taking, fallAll}
 use Rattle.undo.proofs.Counters.{Counters, counters-written, counters-fallAll}
-use Rattle.recovery.specs.Backward.{abortAll, starting, backward}
+use Rattle.recovery_model.specs.Backward.{abortAll, starting, backward}
 
 module _ (t : Tables) (m : Ram) where
   turn : (n : ℕ) → abortAll (suc n) t m ≡ abortAll n t (written m (Row.abort (getD (t .active) n vacant .visit .0)))

@@ -5,13 +5,13 @@ use mathlib.Core.List.{List}
 use native.Mathlib.Omega.{arith}
 use lib.Dec.{eqb}
 use Rattle.rows.specs.Reading.{isBlank}
-use Rattle.tables.specs.Visits.{InRange}
-use Rattle.tables.specs.Rows.{Index}
+use Rattle.tables_model.specs.Visits.{InRange}
+use Rattle.tables_model.specs.Rows.{Index}
 use Rattle.undo.specs.Looking.{rowBytesAt}
-use Rattle.recovery.specs.declared.Judged.{Judged}
-use Rattle.recovery.specs.declared.Judged.the-variants.{Taken, Ends, Bad}
-use Rattle.recovery.specs.Scan.{judgeRow, Scanned, scanOn, scanFrom, firstSet, scanned}
-use Rattle.recovery.specs.Openings.{noIndex}
+use Rattle.recovery_model.specs.declared.Judged.{Judged}
+use Rattle.recovery_model.specs.declared.Judged.the-variants.{Taken, Ends, Bad}
+use Rattle.recovery_model.specs.Scan.{judgeRow, Scanned, scanOn, scanFrom, firstSet, scanned}
+use Rattle.recovery_model.specs.Openings.{noIndex}
 use Rattle.recovery.proofs.ScanTurns.{judged-range}
 
 pub record Bounded (s : Scanned) : Type 0 where

@@ -12,9 +12,9 @@ use borrow.Author.Tests.{le-leb, lt-leb}
 use Rattle.book.specs.Numbers.{number, signed}
 use Rattle.book.specs.Rows.{Row}
 use Rattle.book.specs.RowBytes.{rowOf, rowOfKind}
-use Rattle.tables.specs.Meaning.{isChangeBy, previous}
+use Rattle.tables_model.specs.Meaning.{isChangeBy, previous}
 use Rattle.undo.specs.Looking.{rowBytesAt}
-use Rattle.recovery.specs.Scan.{rowIn}
+use Rattle.recovery_model.specs.Scan.{rowIn}
 
 -- ── Where a row stands ────────────────────────────────────────────────────────────────────────────────────────────────
 

@@ -16,8 +16,8 @@ use Rattle.rows.specs.Meaning.{coded, effectOf, effectMeant}
 use Rattle.rows.proofs.Meanings.{meant-coded, effect-meant}
 use Rattle.charts.proofs.Lengths.{page-length}
 use Rattle.undo.specs.Looking.{rowBytesAt}
-use Rattle.recovery.specs.Charts.{pageRedone, redoFrom, redoPage}
-use Rattle.recovery.specs.Forward.{pageWith}
+use Rattle.recovery_model.specs.Charts.{pageRedone, redoFrom, redoPage}
+use Rattle.recovery_model.specs.Forward.{pageWith}
 use Rattle.recovery.proofs.LookUps.{row-by-bytes}
 
 -- ── A row of a page ───────────────────────────────────────────────────────────────────────────────────────────────────

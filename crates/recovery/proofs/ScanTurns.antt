@@ -11,16 +11,16 @@ use Rattle.rows.specs.Reading.{isBlank, readOf}
 use Rattle.rows.specs.Meaning.{meant}
 use Rattle.rows.specs.declared.Read.{Read}
 use Rattle.rows.specs.declared.Read.the-variants.{Valid, Blank, Malformed}
-use Rattle.tables.specs.declared.Verdict.{Verdict}
-use Rattle.tables.specs.declared.Verdict.the-variants.{Allowed, Unlawful, OverLimit}
-use Rattle.tables.specs.Visits.{InRange, noTables}
-use Rattle.tables.specs.Rows.{Index, judgeBy}
-use Rattle.tables.specs.Meaning.{beforeUndone}
+use Rattle.tables_model.specs.declared.Verdict.{Verdict}
+use Rattle.tables_model.specs.declared.Verdict.the-variants.{Allowed, Unlawful, OverLimit}
+use Rattle.tables_model.specs.Visits.{InRange, noTables}
+use Rattle.tables_model.specs.Rows.{Index, judgeBy}
+use Rattle.tables_model.specs.Meaning.{beforeUndone}
 use Rattle.tables.proofs.Verdicts.{allowed-takes}
 use Rattle.tables.proofs.Ranges.{step-range}
 use Rattle.undo.specs.Looking.{rowBytesAt}
-use Rattle.recovery.specs.declared.Judged.the-variants.{Taken, Ends, Bad}
-use Rattle.recovery.specs.Scan.{rowIn, Judgement, ruled, judgedRead, judgeRow, Scanned, scanFrom, firstSet, scanned}
+use Rattle.recovery_model.specs.declared.Judged.the-variants.{Taken, Ends, Bad}
+use Rattle.recovery_model.specs.Scan.{rowIn, Judgement, ruled, judgedRead, judgeRow, Scanned, scanFrom, firstSet, scanned}
 
 left : (i : ℕ) → i < 4096 → 4096 - i ≡ suc (4096 - (i + 1))
 left i h = omega arith

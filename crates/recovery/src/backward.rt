@@ -2,18 +2,18 @@
 ghost use mathlib.Core.Path.{_≡_};
 ghost use Prim.Native.Nat.{_≤_};
 ghost use lib.ListN.{length, replicate};
-ghost use Rattle.tables.specs.Rows.{index};
+ghost use Rattle.tables_model.specs.Rows.{index};
 ghost use Rattle.undo.specs.Writing.{ram, Fits};
-ghost use Rattle.recovery.specs.Backward.{abortAll, backward as backwardOf};
-ghost use Rattle.recovery.specs.Checking.{Recovers};
-use crate::scan::LogScan;
+ghost use Rattle.recovery_model.specs.Backward.{abortAll, backward as backwardOf};
+ghost use Rattle.recovery_model.specs.Checking.{Recovers};
 use journal::Control;
 use journal::force::force;
+use recovery_model::LogScan;
 use rows::Row;
 use state::ram::Fuse;
 use state::ram::Phase;
-use tables::Tables;
-use tables::Whom;
+use tables_model::Tables;
+use tables_model::Whom;
 use undo::take_back::take_back;
 use undo::write::write;
 

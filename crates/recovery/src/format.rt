@@ -2,27 +2,21 @@
 ghost use mathlib.Core.Path.{_≡_};
 ghost use mathlib.Core.Bool.{false};
 ghost use mathlib.Core.List.{List, []};
-ghost use lib.ListN.{length, replicate};
+ghost use lib.ListN.{length};
 ghost use Rattle.book.specs.Limits.{formatBound};
 ghost use Rattle.book.specs.Numbers.{within};
 ghost use Rattle.book.specs.Pages.{chartBytes, pageAfter};
 ghost use Rattle.state.specs.declared.ram.Scope.{Scope};
 ghost use Rattle.state.specs.Contracts.{badCell, cellsOf, formats};
-ghost use Rattle.recovery.specs.Answering.{formatted, world};
+ghost use Rattle.recovery_model.specs.Answering.{formatted, world};
 use crate::ram::closed_state;
 use crate::ram::lengths_fit;
 use charts::page::build_page;
 use journal::writes::clear;
+use recovery_model::FormatOut;
 use rows::Cell;
 use state::answers::Formatted;
 use state::ram::State;
-
-// The state and the answer, and whether every entry of the lent scope table is to be unused.
-pub struct FormatOut {
-    pub state: State,
-    pub answer: Formatted,
-    pub clears: bool,
-}
 
 // A number of grams within ±1,000,000.
 fn is_format(z: i32) -> bool

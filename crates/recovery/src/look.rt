@@ -4,24 +4,24 @@ ghost use lib.ListN.{length};
 ghost use Rattle.book.specs.Rows.{undoneBy};
 ghost use Rattle.book.specs.RowBytes.{rowOf};
 ghost use Rattle.rows.specs.Meaning.{meant, coded};
-ghost use Rattle.tables.specs.declared.Whom.the-variants.{One};
-ghost use Rattle.tables.specs.Entries.{scopeIn, entries};
-ghost use Rattle.tables.specs.Table.{Reaches};
-ghost use Rattle.tables.specs.Rows.{Ready, index};
-ghost use Rattle.tables.specs.Meaning.{isChangeBy, beforeLast, beforeFound, beforeHighest, beforeUndone};
-ghost use Rattle.recovery.specs.Scan.{rowIn};
-ghost use Rattle.recovery.specs.Checking.{Rows};
+ghost use Rattle.tables_model.specs.declared.Whom.the-variants.{One};
+ghost use Rattle.tables_model.specs.Entries.{scopeIn, entries};
+ghost use Rattle.tables_model.specs.Table.{Reaches};
+ghost use Rattle.tables_model.specs.Rows.{Ready, index};
+ghost use Rattle.tables_model.specs.Meaning.{isChangeBy, beforeLast, beforeFound, beforeHighest, beforeUndone};
+ghost use Rattle.recovery_model.specs.Scan.{rowIn};
+ghost use Rattle.recovery_model.specs.Checking.{Rows};
 use rows::Lsn;
 use rows::Row;
 use rows::Visit;
 use rows::numbers::wide;
 use rows::reader::row_in;
-use tables::Entry;
-use tables::Found;
-use tables::Tables;
-use tables::Whom;
 use tables::entries::entry_at;
 use tables::lookup::highest;
+use tables_model::Entry;
+use tables_model::Found;
+use tables_model::Tables;
+use tables_model::Whom;
 
 // Row n, counted from 1, if it is one of the first k. Of no such row any will do.
 pub fn row_in_log(log: &[u8], k: usize, n: usize) -> Row

@@ -3,36 +3,30 @@ ghost use mathlib.Core.Path.{_≡_};
 ghost use mathlib.Core.Bool.{true};
 ghost use mathlib.Core.List.{List};
 ghost use Prim.Native.Nat.{ℕ, _+_, _-_, _≤_};
-ghost use lib.ListN.{length, replicate};
+ghost use lib.ListN.{length};
 ghost use Rattle.book.specs.Opening.{noCopy};
 ghost use Rattle.state.specs.declared.ram.Scope.{Scope};
 ghost use Rattle.state.specs.World.{closedState};
 ghost use Rattle.undo.specs.Writing.{ram};
-ghost use Rattle.recovery.specs.Checking.{Recovers, found};
-ghost use Rattle.recovery.specs.Answering.{opened, world};
-ghost use Rattle.recovery.specs.Openings.{settledOpening, recoveredBy, checkedBy, opensBy};
+ghost use Rattle.recovery_model.specs.Checking.{Recovers, found};
+ghost use Rattle.recovery_model.specs.Answering.{opened, world};
+ghost use Rattle.recovery_model.specs.Openings.{settledOpening, recoveredBy, checkedBy, opensBy};
 use crate::backward::backward;
 use crate::pages::bad_page;
 use crate::pages::redo;
 use crate::ram::closed_state;
 use crate::ram::lengths_fit;
 use crate::ram::opened_state;
-use crate::scan::LogScan;
 use crate::scan::scan_log;
 use journal::Control;
 use journal::writes::clear;
+use recovery_model::LogScan;
+use recovery_model::OpenOut;
 use rows::Lsn;
 use state::answers::Opened;
 use state::ram::Fuse;
 use state::ram::Phase;
 use state::ram::State;
-
-// The state and the answer, and whether every entry of the lent scope table is to be unused.
-pub struct OpenOut {
-    pub state: State,
-    pub answer: Opened,
-    pub clears: bool,
-}
 
 // The store is closed, and the copy cleared.
 fn closed_by(copy: &mut [u8], answer: Opened) -> OpenOut

@@ -1,18 +1,17 @@
 // The check of the pages against the log, and the forward part of an opening, page by page.
 ghost use mathlib.Core.Path.{_≡_};
 ghost use mathlib.Core.Bool.{_||_};
-ghost use Prim.Native.Nat.{_+_, _-_, _*_, _/_, _≤_, _<_};
+ghost use Prim.Native.Nat.{_+_, _-_, _*_, _/_, _<_};
 ghost use lib.ListN.{length};
 ghost use lib.Dec.{eqb};
 ghost use Rattle.book.specs.Rows.{effect};
 ghost use Rattle.book.specs.RowBytes.{rowOf};
 ghost use Rattle.book.specs.Cells.{touches, onPage};
-ghost use Rattle.book.specs.Pages.{pageAt};
 ghost use Rattle.rows.specs.Meaning.{effectMeant};
-ghost use Rattle.recovery.specs.Scan.{rowIn};
-ghost use Rattle.recovery.specs.Checking.{Rows};
-ghost use Rattle.recovery.specs.Charts.{isPageBy, badPageBy, pageRedone, redoFrom, redoPage, redoCharts};
-ghost use Rattle.recovery.specs.Forward.{pageWith};
+ghost use Rattle.recovery_model.specs.Scan.{rowIn};
+ghost use Rattle.recovery_model.specs.Checking.{Rows};
+ghost use Rattle.recovery_model.specs.Charts.{isPageBy, badPageBy, pageRedone, redoFrom, redoPage, redoCharts};
+ghost use Rattle.recovery_model.specs.Forward.{pageWith};
 use crate::look::row_in_log;
 use charts::check::page_ok;
 use charts::page::move_place;

@@ -3,15 +3,15 @@ ghost use mathlib.Core.Path.{_≡_};
 ghost use mathlib.Core.Bool.{_&&_};
 ghost use lib.Dec.{eqb};
 ghost use Rattle.state.specs.World.{closedState};
-ghost use Rattle.recovery.specs.Answering.{openedState};
+ghost use Rattle.recovery_model.specs.Answering.{openedState};
 use journal::Control;
 use rows::Visit;
 use state::ram::Fuse;
 use state::ram::Phase;
 use state::ram::State;
-use tables::Active;
-use tables::Tables;
 use tables::visits::no_tables;
+use tables_model::Active;
+use tables_model::Tables;
 
 // The log, the charts, the copy and the scope table have their lengths.
 pub fn lengths_fit(log: usize, charts: usize, copy: usize, scopes: usize) -> bool

@@ -1,40 +1,29 @@
 // The check of a log, row by row: each row is decoded once, judged by the tables, and applied to them; zero bytes follow the last.
 ghost use mathlib.Core.Path.{_≡_};
-ghost use Prim.Native.Nat.{_-_, _≤_};
+ghost use Prim.Native.Nat.{_-_};
 ghost use lib.ListN.{length};
 ghost use Rattle.rows.specs.Meaning.{meant};
 ghost use Rattle.book.specs.Rows.{undoneBy};
-ghost use Rattle.tables.specs.Rows.{Ready, index, judgeBy};
-ghost use Rattle.recovery.specs.Scan.{rowIn, ruled, judgeRow, scanFrom, firstSet, scanned};
-ghost use Rattle.recovery.specs.Checking.{Rows, Next, judgement, found};
-ghost use Rattle.recovery.specs.Openings.{noIndex};
-use crate::Judged;
+ghost use Rattle.tables_model.specs.Rows.{Ready, index, judgeBy};
+ghost use Rattle.recovery_model.specs.Scan.{rowIn, ruled, judgeRow, scanFrom, firstSet, scanned};
+ghost use Rattle.recovery_model.specs.Checking.{Rows, Next, judgement, found};
+ghost use Rattle.recovery_model.specs.Openings.{noIndex};
 use crate::look::before_undone;
 use crate::look::named_by;
+use recovery_model::Judged;
+use recovery_model::JudgedRow;
+use recovery_model::LogScan;
 use rows::Lsn;
 use rows::Read;
 use rows::Row;
 use rows::reader::is_blank;
 use rows::reader::read_row;
-use tables::Tables;
-use tables::Verdict;
 use tables::entries::clear;
 use tables::rules::judge;
 use tables::steps::step;
 use tables::visits::no_tables;
-
-// What one row comes to, and the visits after it.
-pub struct JudgedRow {
-    pub judged: Judged,
-    pub tables: Tables,
-}
-
-// What the check of a log found: so many rows, the first bad row, 0 for none, and the visits after the rows.
-pub struct LogScan {
-    pub rows: usize,
-    pub bad: usize,
-    pub tables: Tables,
-}
+use tables_model::Tables;
+use tables_model::Verdict;
 
 // A row that the rules allow is applied to the tables.
 fn take_row(log: &[u8], k: usize, t: Tables, scopes: &mut [u16], row: Row) -> JudgedRow

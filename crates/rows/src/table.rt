@@ -2,8 +2,9 @@
 // The reader tests bytes by it, the writer sets them by it.
 ghost use mathlib.Core.Path.{_≡_};
 ghost use Prim.Native.Nat.{_<_};
-ghost use lib.ListN.{length};
-ghost use Rattle.book.specs.RowBytes.{mayBe};
+ghost use lib.ListN.{length, getD};
+ghost use mathlib.Core.List.{[]};
+ghost use Rattle.book.specs.RowBytes.{mayBeSet};
 ghost use Rattle.rows.specs.Table.{asTable, okByte, masked, fill};
 
 // Kind 0 is a blank row.
@@ -17,45 +18,44 @@ const MAY_BE: [[u8; 16]; 7] = [
     [1, 1, 0, 0, 1, 1, 0, 0, 0, 0, 0, 0, 0, 0, 0, 0],
 ];
 
-// The table's entry.
-fn may_be(kind: usize, at: usize) -> u8
-    requires { ⌜ (kind < 7) × (at < 16) ⌝ }
-    ensures { λ r. ⌜ r ≡ mayBe kind at ⌝ }
+// The table's line of a kind.
+fn line_of(kind: usize) -> [u8; 16]
+    requires { ⌜ kind < 7 ⌝ }
+    ensures { λ r. ⌜ r ≡ getD mayBeSet kind [] ⌝ }
 {
-    let line = MAY_BE[kind];
-    line[at]
+    MAY_BE[kind]
 }
 
-// Byte `at` of a row of kind `kind` may be x.
-fn byte_ok(kind: usize, at: usize, x: u8) -> bool
-    requires { ⌜ (kind < 7) × (at < 16) ⌝ }
-    ensures { λ r. ⌜ r ≡ okByte (mayBe kind at) x ⌝ }
+// A byte may be x whose entry in the table is m.
+fn byte_ok(m: u8, x: u8) -> bool
+    ensures { λ r. ⌜ r ≡ okByte m x ⌝ }
 {
-    if may_be(kind, at) == 0 { x == 0 } else { true }
+    if m == 0 { x == 0 } else { true }
 }
 
-// x where byte `at` of a row of kind `kind` may be other than zero, else zero.
-fn byte_or_zero(kind: usize, at: usize, x: u8) -> u8
-    requires { ⌜ (kind < 7) × (at < 16) ⌝ }
-    ensures { λ r. ⌜ r ≡ masked (mayBe kind at) x ⌝ }
+// x where the byte, whose entry is m, may be other than zero, else zero.
+fn byte_or_zero(m: u8, x: u8) -> u8
+    ensures { λ r. ⌜ r ≡ masked m x ⌝ }
 {
-    if may_be(kind, at) == 0 { 0 } else { x }
+    if m == 0 { 0 } else { x }
 }
 
-// Each byte that is to be zero in a row of kind `kind` is zero.
+// Each byte that is to be zero in a row of kind `kind` is zero. The others are counted, with no way out of the loop before its end: so it compiles to a few
+// instructions for all 16 bytes, and an opening goes over the whole log by it.
 pub(crate) fn is_as_table(b: &[u8], kind: usize) -> bool
     requires { ⌜ (kind < 7) × (length (now b) ≡ 16) ⌝ }
     ensures { λ r. ⌜ r ≡ asTable 16 0 kind (now (b .entry)) ⌝ }
 {
+    let line = line_of(kind);
+    let mut wrong: u8 = 0;
     let mut i: usize = 0;
     while i < 16 {
-        if byte_ok(kind, i, b[i]) {
-            i += 1;
-        } else {
-            return false;
+        if !byte_ok(line[i], b[i]) {
+            wrong += 1;
         }
+        i += 1;
     }
-    true
+    wrong == 0
 }
 
 // Sets b to the bytes of `f` that a row of kind `kind` may have, and zeros.
@@ -63,9 +63,10 @@ pub(crate) fn put_by_table(b: &mut [u8], kind: usize, f: &[u8; 16])
     requires { ⌜ (kind < 7) × (length (now b) ≡ 16) ⌝ }
     ensures { λ _. ⌜ now (b .exit) ≡ fill 16 0 kind (now (f .entry)) (now (b .entry)) ⌝ }
 {
+    let line = line_of(kind);
     let mut i: usize = 0;
     while i < 16 {
-        b[i] = byte_or_zero(kind, i, f[i]);
+        b[i] = byte_or_zero(line[i], f[i]);
         i += 1;
     }
 }

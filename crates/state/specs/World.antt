@@ -18,9 +18,9 @@ use Rattle.book.specs.LogBytes.{rowsBytes, logBytes}
 use Rattle.book.specs.Pages.{chartBytes, pageAfter}
 use Rattle.book.specs.Opening.{noCopy}
 use Rattle.book.specs.Logs.{Sound}
-use Rattle.tables.specs.declared.Tables.{Tables}
-use Rattle.tables.specs.Visits.{vacant}
-use Rattle.tables.specs.Meaning.{tablesOf, scopeTable}
+use Rattle.tables_model.specs.declared.Tables.{Tables}
+use Rattle.tables_model.specs.Visits.{vacant}
+use Rattle.tables_model.specs.Meaning.{tablesOf, scopeTable}
 use Rattle.state.specs.declared.ram.Phase.{Phase}
 use Rattle.state.specs.declared.ram.Phase.the-variants.{Open, Closed}
 use Rattle.state.specs.declared.ram.Fuse.{Fuse}

@@ -2,7 +2,7 @@
 use rows::Cell;
 use rows::Lsn;
 use rows::Visit;
-use tables::Tables;
+use tables_model::Tables;
 
 // Closed until it is opened, and after a power failure.
 pub enum Phase {

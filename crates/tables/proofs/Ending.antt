@@ -7,10 +7,10 @@ use native.Mathlib.Omega.{arith}
 use lib.ListN.{length, getD, length-set}
 use lib.Dec.{eqb}
 use Rattle.book.specs.Scopes.{Scope, unused}
-use Rattle.tables.specs.declared.Active.{Active}
-use Rattle.tables.specs.declared.Tables.{Tables}
-use Rattle.tables.specs.Visits.{isOf, vacant, keptAt}
-use Rattle.tables.specs.Table.{Scopes, movedAt}
+use Rattle.tables_model.specs.declared.Active.{Active}
+use Rattle.tables_model.specs.declared.Tables.{Tables}
+use Rattle.tables_model.specs.Visits.{isOf, vacant, keptAt}
+use Rattle.tables_model.specs.Table.{Scopes, movedAt}
 use Rattle.tables.proofs.Loops.{ranks, ranks-kept, ranks-left}
 
 -- the visits that stay

@@ -11,7 +11,7 @@ use lib.Seq.{sets, sets-eq, getD-append-add, getD-set-other, length-take-le}
 use lib.Dec.{eqb}
 use Rattle.book.specs.Lists.{tabulate}
 use Rattle.book.specs.Scopes.{unused}
-use Rattle.tables.specs.Entries.{entryAt, entries, flag}
+use Rattle.tables_model.specs.Entries.{entryAt, entries, flag}
 
 -- ── A list by its places ──────────────────────────────────────────────────────────────────────────────────────────────
 

@@ -10,11 +10,11 @@ use borrow.Author.Tests.{ltb-true}
 use Rattle.book.specs.Lists.{keep}
 use Rattle.book.specs.Rows.{Row, begin, change, handOver, undo, commit, abort}
 use Rattle.book.specs.Scopes.{Scope}
-use Rattle.tables.specs.declared.Found.{Found}
-use Rattle.tables.specs.declared.Found.the-variants.{At, Nothing}
-use Rattle.tables.specs.Visits.{InRange, isOf, withBegun, withUndo, withEnded}
-use Rattle.tables.specs.Table.{find, grows, changedAt, scopesChanged, scopesEnded}
-use Rattle.tables.specs.Rows.{Index, isSome, growsBy, afterEnd, stepBy, Takes}
+use Rattle.tables_model.specs.declared.Found.{Found}
+use Rattle.tables_model.specs.declared.Found.the-variants.{At, Nothing}
+use Rattle.tables_model.specs.Visits.{InRange, isOf, withBegun, withUndo, withEnded}
+use Rattle.tables_model.specs.Table.{find, grows, changedAt, scopesChanged, scopesEnded}
+use Rattle.tables_model.specs.Rows.{Index, isSome, growsBy, afterEnd, stepBy, Takes}
 
 module _ {A : Type 0} where
   keep-one : (p : A → Bool) (x : A) (xs : List A) (b : Bool) → p x ≡ b → length (keep p xs) ≤ length xs → length (keep p (x ∷ xs)) ≤ suc (length xs)

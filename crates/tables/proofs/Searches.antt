@@ -9,12 +9,12 @@ use lib.ListN.{length, take, getD, length-take}
 use lib.Dec.{ltb}
 use Rattle.book.specs.Lists.{any}
 use Rattle.book.specs.Scopes.{Scope, unused}
-use Rattle.tables.specs.declared.Whom.{Whom}
-use Rattle.tables.specs.declared.Found.{Found}
-use Rattle.tables.specs.declared.Found.the-variants.{At, Nothing}
-use Rattle.tables.specs.declared.Candidate.{Candidate}
-use Rattle.tables.specs.Entries.{entries}
-use Rattle.tables.specs.Table.{findFrom, find, covers, highestFrom, highest, betterOf, countAll}
+use Rattle.tables_model.specs.declared.Whom.{Whom}
+use Rattle.tables_model.specs.declared.Found.{Found}
+use Rattle.tables_model.specs.declared.Found.the-variants.{At, Nothing}
+use Rattle.tables_model.specs.declared.Candidate.{Candidate}
+use Rattle.tables_model.specs.Entries.{entries}
+use Rattle.tables_model.specs.Table.{findFrom, find, covers, highestFrom, highest, betterOf, countAll}
 use Rattle.tables.proofs.Loops.{left, left-next}
 use Rattle.tables.proofs.Flat.{entries-length}
 

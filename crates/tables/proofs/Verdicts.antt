@@ -7,14 +7,14 @@ use native.Mathlib.Omega.{arith}
 use borrow.Author.Tests.{ltb-true, eqb-true}
 use Rattle.book.specs.Rows.{Row, begin, change, handOver, undo, commit, abort}
 use Rattle.book.specs.Scopes.{Scope}
-use Rattle.tables.specs.declared.Tables.{Tables}
-use Rattle.tables.specs.declared.Whom.{Whom}
-use Rattle.tables.specs.declared.Found.{Found}
-use Rattle.tables.specs.declared.Found.the-variants.{At, Nothing}
-use Rattle.tables.specs.declared.Verdict.{Verdict}
-use Rattle.tables.specs.declared.Verdict.the-variants.{Allowed, Unlawful, OverLimit}
-use Rattle.tables.specs.Table.{highest, Reaches, MayNote}
-use Rattle.tables.specs.Rows.{Index, growsBy, MayChange, lawfulBy, withinLimitsBy, judgeBy, Takes}
+use Rattle.tables_model.specs.declared.Tables.{Tables}
+use Rattle.tables_model.specs.declared.Whom.{Whom}
+use Rattle.tables_model.specs.declared.Found.{Found}
+use Rattle.tables_model.specs.declared.Found.the-variants.{At, Nothing}
+use Rattle.tables_model.specs.declared.Verdict.{Verdict}
+use Rattle.tables_model.specs.declared.Verdict.the-variants.{Allowed, Unlawful, OverLimit}
+use Rattle.tables_model.specs.Table.{highest, Reaches, MayNote}
+use Rattle.tables_model.specs.Rows.{Index, growsBy, MayChange, lawfulBy, withinLimitsBy, judgeBy, Takes}
 use Rattle.tables.proofs.Searches.{highest-below}
 
 -- the entry with the highest open change lies within the table

@@ -2,8 +2,8 @@
 ghost use mathlib.Core.Path.{_≡_};
 ghost use lib.ListN.{length, getD, set, replicate};
 ghost use Rattle.book.specs.Scopes.{unused};
-ghost use Rattle.tables.specs.Entries.{flatLength, Inside, scopeIn, flag, entries as entriesOf, Counted};
-use crate::Entry;
+ghost use Rattle.tables_model.specs.Entries.{flatLength, Inside, scopeIn, flag, entries as entriesOf, Counted};
+use tables_model::Entry;
 
 // Entry i. Whatever is not 0 counts as handed.
 pub fn entry_at(t: &[u16], i: usize) -> Entry

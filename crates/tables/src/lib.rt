@@ -1,5 +1,6 @@
-// The tables of an open store: the active visits, and the scope table in its flat form (64 entries of 7 numbers). They say at every moment what the
-// rows of log and tail say (`proofs/Simulation`), so that no call and no check of a row looks at the log for visits, holders, scopes or the reserve.
+// The tables of an open store, kept by functions: the active visits, and the scope table in its flat form (64 entries of 7 numbers), worked on in
+// place. Each function is proved to equal its definition in crate `tables_model`, which has what they mean: so no call and no check of a row looks at
+// the log for visits, holders, scopes or the reserve.
 pub mod entries; // the flat scope table, entry by entry
 pub mod lookup; // what is found in the scope table
 pub mod rules; // the row rules by the tables
@@ -7,55 +8,3 @@ pub mod scopes; // one entry: its tests, and what a row makes of it
 pub mod steps; // both tables after a row
 pub mod updates; // the scope table after a row
 pub mod visits; // the active visits
-
-use rows::Visit;
-
-// An active visit. Later fields move with it: the array is compacted entry by entry.
-pub struct Active {
-    pub visit: Visit,
-    pub bears: bool, // an undo row bears it
-}
-
-// The active visits stand in ascending order in the first `count` places, vacant ones after them; the first `used` scope entries are in use.
-pub struct Tables {
-    pub begun: u16, // begin rows so far
-    pub active: [Active; 16],
-    pub count: usize,
-    pub used: usize,
-}
-
-// An entry of the scope table with its numbers as they stand there, of any value.
-pub struct Entry {
-    pub maker: u16,
-    pub holder: u16,
-    pub cell: u16,
-    pub first: u16,
-    pub last: u16,
-    pub handed: bool,
-    pub count: u16,
-}
-
-// The visits that a take-back is about: abort is about one, an opening about all.
-pub enum Whom {
-    One(Visit),
-    All,
-}
-
-// An entry of the scope table, or none.
-pub enum Found {
-    At(usize),
-    Nothing,
-}
-
-// What a search for the highest open change has seen: the row, and its entry.
-pub struct Candidate {
-    pub last: u16,
-    pub at: Found,
-}
-
-// What the row rules say of a row whose bytes are well formed.
-pub enum Verdict {
-    Allowed,
-    Unlawful,
-    OverLimit,
-}

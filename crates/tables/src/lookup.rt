@@ -2,12 +2,8 @@
 ghost use mathlib.Core.Path.{_≡_};
 ghost use Prim.Native.Nat.{_<_};
 ghost use lib.ListN.{length};
-ghost use Rattle.tables.specs.Entries.{Sized, scopeIn, entries as entriesOf};
-ghost use Rattle.tables.specs.Table.{find, grows, holdsCell, highest as highestIn, lastAt, openCount, betterOf, Reaches};
-use crate::Candidate;
-use crate::Entry;
-use crate::Found;
-use crate::Whom;
+ghost use Rattle.tables_model.specs.Entries.{Sized, scopeIn, entries as entriesOf};
+ghost use Rattle.tables_model.specs.Table.{find, grows, holdsCell, highest as highestIn, lastAt, openCount, betterOf, Reaches};
 use crate::entries::count_at;
 use crate::entries::entry_at;
 use crate::scopes::covers;
@@ -16,6 +12,10 @@ use crate::scopes::may_grow;
 use rows::Cell;
 use rows::Lsn;
 use rows::Visit;
+use tables_model::Candidate;
+use tables_model::Entry;
+use tables_model::Found;
+use tables_model::Whom;
 
 // The first entry in use that a change of the cell by the visit grows.
 pub fn find_growing(t: &[u16], used: usize, v: Visit, c: Cell) -> Found

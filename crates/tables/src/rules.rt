@@ -6,13 +6,9 @@ ghost use lib.ListN.{length};
 ghost use lib.Dec.{eqb};
 ghost use Rattle.book.specs.Lists.{eqZ};
 ghost use Rattle.rows.specs.Meaning.{meant};
-ghost use Rattle.tables.specs.Visits.{InRange};
-ghost use Rattle.tables.specs.Rows.{Ready, index, reserveBy, roomBy, highestOf, growsBy, isChange, mayAct};
-ghost use Rattle.tables.specs.Rows.{mayHandOver, mayUndo, mayAbort, lawfulBy, roomToBegin, roomToChange, withinLimitsBy, judgeBy};
-use crate::Found;
-use crate::Tables;
-use crate::Verdict;
-use crate::Whom;
+ghost use Rattle.tables_model.specs.Visits.{InRange};
+ghost use Rattle.tables_model.specs.Rows.{Ready, index, reserveBy, roomBy, highestOf, growsBy, isChange, mayAct};
+ghost use Rattle.tables_model.specs.Rows.{mayHandOver, mayUndo, mayAbort, lawfulBy, roomToBegin, roomToChange, withinLimitsBy, judgeBy};
 use crate::lookup::find_growing;
 use crate::lookup::highest;
 use crate::lookup::holds_cell;
@@ -24,6 +20,10 @@ use rows::Cell;
 use rows::Lsn;
 use rows::Row;
 use rows::Visit;
+use tables_model::Found;
+use tables_model::Tables;
+use tables_model::Verdict;
+use tables_model::Whom;
 
 // The rows that must stay free: an end for each active visit, and an undo for each open change.
 pub fn reserve(t: Tables, scopes: &[u16]) -> usize

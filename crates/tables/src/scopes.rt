@@ -2,14 +2,14 @@
 ghost use mathlib.Core.Path.{_≡_};
 ghost use Prim.Native.Nat.{_-_};
 ghost use Rattle.book.specs.Scopes.{unused as unusedScope};
-ghost use Rattle.tables.specs.Entries.{scopeIn};
-ghost use Rattle.tables.specs.Table.{grows, isHeld, covers as coversBy, grown as grownScope};
-ghost use Rattle.tables.specs.Table.{started as startedScope, passed as passedScope, handedOn, lowered as loweredScope};
-use crate::Entry;
-use crate::Whom;
+ghost use Rattle.tables_model.specs.Entries.{scopeIn};
+ghost use Rattle.tables_model.specs.Table.{grows, isHeld, covers as coversBy, grown as grownScope};
+ghost use Rattle.tables_model.specs.Table.{started as startedScope, passed as passedScope, handedOn, lowered as loweredScope};
 use rows::Cell;
 use rows::Lsn;
 use rows::Visit;
+use tables_model::Entry;
+use tables_model::Whom;
 
 // The maker changed the cell in this scope, and has not handed it over since.
 pub fn may_grow(e: Entry, v: Visit, c: Cell) -> bool

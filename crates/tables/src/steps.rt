@@ -2,11 +2,8 @@
 ghost use mathlib.Core.Path.{_≡_};
 ghost use lib.ListN.{length};
 ghost use Rattle.rows.specs.Meaning.{meant};
-ghost use Rattle.tables.specs.Visits.{withUsed};
-ghost use Rattle.tables.specs.Rows.{Ready, Steps, MayChange, index, afterHandOver, afterChange, afterUndo, afterEnd, stepBy};
-use crate::Found;
-use crate::Tables;
-use crate::Whom;
+ghost use Rattle.tables_model.specs.Visits.{withUsed};
+ghost use Rattle.tables_model.specs.Rows.{Ready, Steps, MayChange, index, afterHandOver, afterChange, afterUndo, afterEnd, stepBy};
 use crate::lookup::highest;
 use crate::updates::end_visit;
 use crate::updates::hand_over;
@@ -19,6 +16,9 @@ use rows::Cell;
 use rows::Lsn;
 use rows::Row;
 use rows::Visit;
+use tables_model::Found;
+use tables_model::Tables;
+use tables_model::Whom;
 
 // The same visits with another number of scopes in use.
 fn with_used(t: Tables, used: usize) -> Tables

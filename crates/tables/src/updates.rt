@@ -3,11 +3,10 @@ ghost use mathlib.Core.Path.{_≡_};
 ghost use lib.ListN.{length, getD, set, take};
 ghost use Rattle.book.specs.Lists.{padTo};
 ghost use Rattle.book.specs.Scopes.{unused as unusedScope};
-ghost use Rattle.tables.specs.declared.Found.the-variants.{At};
-ghost use Rattle.tables.specs.Entries.{Sized, Inside, entries as entriesOf};
-ghost use Rattle.tables.specs.Table.{scopesIn, MayNote, Moves, ClosedRanks, scopesChanged};
-ghost use Rattle.tables.specs.Table.{scopesHanded, scopesEnded, handedOn, movedAt, undoneAt};
-use crate::Found;
+ghost use Rattle.tables_model.specs.declared.Found.the-variants.{At};
+ghost use Rattle.tables_model.specs.Entries.{Sized, Inside, entries as entriesOf};
+ghost use Rattle.tables_model.specs.Table.{scopesIn, MayNote, Moves, ClosedRanks, scopesChanged};
+ghost use Rattle.tables_model.specs.Table.{scopesHanded, scopesEnded, handedOn, movedAt, undoneAt};
 use crate::entries::entry_at;
 use crate::entries::put_entry;
 use crate::lookup::find_growing;
@@ -19,6 +18,7 @@ use crate::scopes::unused;
 use rows::Cell;
 use rows::Lsn;
 use rows::Visit;
+use tables_model::Found;
 
 // A change in row n grows the scope that may grow, or starts one behind the last. Returns the entries then in use.
 pub fn note_change(t: &mut [u16], used: usize, n: Lsn, v: Visit, c: Cell) -> usize

@@ -1,11 +1,11 @@
 // The active visits, in the first `count` places of the struct's array.
 ghost use mathlib.Core.Path.{_≡_};
 ghost use Prim.Native.Nat.{_<_, _≤_};
-ghost use Rattle.tables.specs.Visits.{InRange, Begins, Without, isOf, isBearer, marked, isListed};
-ghost use Rattle.tables.specs.Visits.{isBearing, withBegun, withUndo, withEnded, keptAt, vacated, noTables};
-use crate::Active;
-use crate::Tables;
+ghost use Rattle.tables_model.specs.Visits.{InRange, Begins, Without, isOf, isBearer, marked, isListed};
+ghost use Rattle.tables_model.specs.Visits.{isBearing, withBegun, withUndo, withEnded, keptAt, vacated, noTables};
 use rows::Visit;
+use tables_model::Active;
+use tables_model::Tables;
 
 pub fn is_of(a: Active, v: Visit) -> bool
     ensures { λ r. ⌜ r ≡ isOf (v .0) a ⌝ }

@@ -16,15 +16,15 @@ use Rattle.book.specs.Book.{undoOf}
 use Rattle.book.proofs.InvariantKept.{inv-log}
 use Rattle.book.proofs.Steps.{extends-all}
 use Rattle.book.proofs.NextUndo.{undo-allowed, undo-next}
-use Rattle.tables.specs.declared.Tables.{Tables}
-use Rattle.tables.specs.declared.Whom.{Whom}
-use Rattle.tables.specs.declared.Found.{Found}
-use Rattle.tables.specs.declared.Found.the-variants.{At, Nothing}
-use Rattle.tables.specs.Visits.{withUndo}
-use Rattle.tables.specs.Table.{covers, highest, lowered}
-use Rattle.tables.specs.Meaning.{tablesOf, scopeTable, beforeLast}
-use Rattle.tables.proofs.Previous.{Looks}
-use Rattle.tables.proofs.Undoing.{HighestOpen, nothing-open, highest-open, undo-tables}
+use Rattle.tables_model.specs.declared.Tables.{Tables}
+use Rattle.tables_model.specs.declared.Whom.{Whom}
+use Rattle.tables_model.specs.declared.Found.{Found}
+use Rattle.tables_model.specs.declared.Found.the-variants.{At, Nothing}
+use Rattle.tables_model.specs.Visits.{withUndo}
+use Rattle.tables_model.specs.Table.{covers, highest, lowered}
+use Rattle.tables_model.specs.Meaning.{tablesOf, scopeTable, beforeLast}
+use Rattle.tables_model.proofs.Previous.{Looks}
+use Rattle.tables_model.proofs.Undoing.{HighestOpen, nothing-open, highest-open, undo-tables}
 use Rattle.journal.specs.Journal.{Journal}
 use Rattle.undo.specs.Writing.{isRunning, written}
 use Rattle.undo.specs.Looking.{lookUp}

@@ -4,10 +4,10 @@ use native.Mathlib.Omega.{arith}
 use mathlib.Core.Path.{_≡_, sym}
 use mathlib.Core.List.{List}
 use Rattle.book.specs.Scopes.{Scope}
-use Rattle.tables.specs.declared.Whom.{Whom}
-use Rattle.tables.specs.declared.Found.{Found}
-use Rattle.tables.specs.declared.Found.the-variants.{At, Nothing}
-use Rattle.tables.specs.Table.{highest}
+use Rattle.tables_model.specs.declared.Whom.{Whom}
+use Rattle.tables_model.specs.declared.Found.{Found}
+use Rattle.tables_model.specs.declared.Found.the-variants.{At, Nothing}
+use Rattle.tables_model.specs.Table.{highest}
 use Rattle.tables.proofs.Searches.{highest-below}
 use Rattle.undo.specs.TakeBack.{Taking, Reach, fallen, nextToFall, fallAll}
 

@@ -13,7 +13,7 @@ use Rattle.book.specs.Numbers.{number}
 use Rattle.book.specs.Rows.{Row, begin}
 use Rattle.book.specs.RowBytes.{rowOf, rowOfKind}
 use Rattle.book.proofs.Lists.{clash}
-use Rattle.tables.specs.Meaning.{isChangeBy, previous}
+use Rattle.tables_model.specs.Meaning.{isChangeBy, previous}
 use Rattle.journal.specs.Journal.{Journal}
 use Rattle.undo.specs.Looking.{rowBytesAt, lookUp}
 use Rattle.undo.specs.Writing.{rowCount}

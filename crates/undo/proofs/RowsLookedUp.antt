@@ -18,7 +18,7 @@ use Rattle.book.specs.Pages.{rowAt}
 use Rattle.book.proofs.Lists.{and-i, and-l, and-r}
 use Rattle.book.proofs.RowBytes.{row-long, row-back}
 use Rattle.book.proofs.LogBytes.{allowed-fits}
-use Rattle.tables.proofs.Previous.{Looks}
+use Rattle.tables_model.proofs.Previous.{Looks}
 use Rattle.journal.specs.Meaning.{controlOf, journalOf}
 use Rattle.undo.specs.Writing.{rowCount}
 use Rattle.undo.specs.Looking.{rowBytesAt, bytesOf, lookUp}

@@ -6,12 +6,12 @@ use lib.ListN.{getD, set}
 use lib.IntN.{pos}
 use Rattle.book.specs.Rows.{Row, begin, change, handOver, undo, commit, abort}
 use Rattle.book.specs.Scopes.{Scope, unused}
-use Rattle.tables.specs.declared.Whom.{Whom}
-use Rattle.tables.specs.declared.Found.{Found}
-use Rattle.tables.specs.declared.Found.the-variants.{At, Nothing}
-use Rattle.tables.specs.Entries.{entries}
-use Rattle.tables.specs.Table.{highest, lowered}
-use Rattle.tables.specs.Meaning.{beforeLast}
+use Rattle.tables_model.specs.declared.Whom.{Whom}
+use Rattle.tables_model.specs.declared.Found.{Found}
+use Rattle.tables_model.specs.declared.Found.the-variants.{At, Nothing}
+use Rattle.tables_model.specs.Entries.{entries}
+use Rattle.tables_model.specs.Table.{highest, lowered}
+use Rattle.tables_model.specs.Meaning.{beforeLast}
 use Rattle.journal.specs.declared.Control.{Control}
 use Rattle.undo.specs.Writing.{Ram, ram, isRunning, written}
 use Rattle.undo.specs.Looking.{lookUp}

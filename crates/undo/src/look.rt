@@ -6,14 +6,14 @@ ghost use Rattle.book.specs.RowBytes.{rowOf};
 ghost use Rattle.journal.specs.Force.{Sizes};
 ghost use Rattle.journal.specs.Journal.{journal};
 ghost use Rattle.rows.specs.Meaning.{coded};
-ghost use Rattle.tables.specs.Entries.{scopeIn};
-ghost use Rattle.tables.specs.Meaning.{isChangeBy, beforeLast};
+ghost use Rattle.tables_model.specs.Entries.{scopeIn};
+ghost use Rattle.tables_model.specs.Meaning.{isChangeBy, beforeLast};
 ghost use Rattle.undo.specs.Looking.{lookUp};
 use journal::Control;
 use rows::Row;
 use rows::Visit;
 use rows::reader::row_in;
-use tables::Entry;
+use tables_model::Entry;
 
 // Row n, counted from 1. Of no such row any will do.
 pub fn row_at(c: Control, log: &[u8], tail: &[u8], n: usize) -> Row

@@ -4,11 +4,11 @@ ghost use mathlib.Core.Bool.{cond};
 ghost use Prim.Native.Nat.{_+_, _<_, _≤_};
 ghost use lib.ListN.{length};
 ghost use Rattle.rows.specs.Meaning.{meant};
-ghost use Rattle.tables.specs.Entries.{entries};
+ghost use Rattle.tables_model.specs.Entries.{entries};
 ghost use Rattle.undo.specs.Writing.{ram, Fits};
 ghost use Rattle.state.specs.World.{isOpenPhase};
-ghost use Rattle.tables.specs.Table.{highest as highestIn};
-ghost use Rattle.tables.specs.declared.Found.the-variants.{Nothing};
+ghost use Rattle.tables_model.specs.Table.{highest as highestIn};
+ghost use Rattle.tables_model.specs.declared.Found.the-variants.{Nothing};
 ghost use Rattle.undo.specs.TakeBack.{taking, undoRow, fallen, fallAll, Reach};
 use crate::look::before_last;
 use crate::look::row_at;
@@ -19,11 +19,11 @@ use rows::Lsn;
 use rows::Row;
 use rows::Visit;
 use state::ram::Phase;
-use tables::Found;
-use tables::Whom;
 use tables::entries::entry_at;
 use tables::lookup::highest;
 use tables::updates::undo_at;
+use tables_model::Found;
+use tables_model::Whom;
 
 // The undo row of row n: cell and change as first logged.
 fn undo_row(holder: Visit, n: Lsn, row: Row) -> Row

@@ -1,10 +1,10 @@
 -- `calls::act::abort` meets its contract. Assumes nothing.
 use Prim.Native.Nat.{_+_}
 use mathlib.Core.Path.{_∙_}
-use Rattle.tables.specs.declared.Whom.the-variants.{One}
+use Rattle.tables_model.specs.declared.Whom.the-variants.{One}
 use Rattle.undo.specs.TakeBack.{taking}
 use Rattle.undo.proofs.Counters.{counters, fits-again, counters-fallAll}
-use Rattle.calls.specs.Acts.{core}
+use Rattle.calls_model.specs.Acts.{core}
 use Rattle.calls.proofs.CallSteps.{row-added, aborts}
 use borrow.Author.Needs.{needs}
 use Rattle.calls.proofs.act.abort.Statement.{statement}

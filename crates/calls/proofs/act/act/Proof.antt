@@ -1,7 +1,7 @@
 -- `calls::act::act` meets its contract. Assumes nothing.
 use mir.Syntax.{w16}
 use mir.Facts.{toZ-ofZ}
-use Rattle.calls.specs.Acts.{acted}
+use Rattle.calls_model.specs.Acts.{acted}
 use Rattle.calls.proofs.NoRefusal.{free-flush}
 use borrow.Author.Needs.{needs}
 use Rattle.calls.proofs.act.act.Statement.{statement}

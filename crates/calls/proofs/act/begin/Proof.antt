@@ -2,8 +2,8 @@
 use native.Mathlib.Omega.{arith}
 use native.Mathlib.Numerals.{add-one}
 use mathlib.Core.Path.{_∙_}
-use Rattle.tables.specs.Rows.{index}
-use Rattle.calls.specs.Acts.{core}
+use Rattle.tables_model.specs.Rows.{index}
+use Rattle.calls_model.specs.Acts.{core}
 use Rattle.calls.proofs.NoRefusal.{free-begin}
 use Rattle.calls.proofs.CallSteps.{row-added, begins}
 use borrow.Author.Needs.{needs}

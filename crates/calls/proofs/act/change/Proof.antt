@@ -1,8 +1,7 @@
 -- `calls::act::change` meets its contract. Assumes nothing.
-use mir.Syntax.{w16}
 use mir.Facts.{toZ-ofZ}
 use mathlib.Core.Path.{_∙_}
-use Rattle.calls.specs.Acts.{core}
+use Rattle.calls_model.specs.Acts.{core}
 use Rattle.calls.proofs.NoRefusal.{free-change}
 use Rattle.calls.proofs.CallSteps.{row-added, changes}
 use borrow.Author.Needs.{needs}

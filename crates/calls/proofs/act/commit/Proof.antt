@@ -2,7 +2,7 @@
 use Rattle.book.specs.Rows.{Row}
 use Rattle.undo.specs.Writing.{ram}
 use Rattle.undo.proofs.Counters.{counters, fits-again, counters-written}
-use Rattle.calls.specs.Acts.{core}
+use Rattle.calls_model.specs.Acts.{core}
 use Rattle.calls.proofs.CallSteps.{commits}
 use borrow.Author.Needs.{needs}
 use Rattle.calls.proofs.act.commit.Statement.{statement}

@@ -2,7 +2,7 @@
 use Prim.Native.Nat.{_+_, _*_, _-_}
 use mathlib.Core.Path.{_≡_}
 use native.Mathlib.Omega.{arith}
-use Rattle.calls.specs.Acts.{core}
+use Rattle.calls_model.specs.Acts.{core}
 use Rattle.calls.proofs.CallSteps.{flushes}
 use borrow.Author.Needs.{needs}
 use Rattle.calls.proofs.act.flush.Statement.{statement}

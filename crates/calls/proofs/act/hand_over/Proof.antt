@@ -1,6 +1,6 @@
 -- `calls::act::hand_over` meets its contract. Assumes nothing.
 use mathlib.Core.Path.{_∙_}
-use Rattle.calls.specs.Acts.{core}
+use Rattle.calls_model.specs.Acts.{core}
 use Rattle.calls.proofs.CallSteps.{row-added, hands-over}
 use borrow.Author.Needs.{needs}
 use Rattle.calls.proofs.act.hand_over.Statement.{statement}

@@ -3,7 +3,7 @@ use lib.IntN.{pos}
 use native.Mathlib.Numerals.{add-one}
 use mir.Facts.{toZ-ofZ}
 use borrow.Author.Needs.{needs}
-use Rattle.calls.specs.Acts.{valueNow}
+use Rattle.calls_model.specs.Acts.{valueNow}
 use Rattle.calls.proofs.act.value_of.Statement.{statement}
 use Rattle.calls.proofs.act.value_of.Tie as tie
 use Rattle.calls.proofs.act.value_of.Reads as reads

@@ -5,10 +5,10 @@ use mathlib.Core.List.{map}
 use native.Mathlib.Omega.{arith}
 use lib.ListN.{length, take, set}
 use Rattle.book.specs.Scopes.{unused}
-use Rattle.tables.specs.Entries.{entries}
+use Rattle.tables_model.specs.Entries.{entries}
 use Rattle.tables.proofs.Flat.{entries-length}
 use Rattle.state.specs.World.{scopeOf}
-use Rattle.calls.specs.Perform.{entryIn}
+use Rattle.calls_model.specs.Perform.{entryIn}
 use Rattle.calls.proofs.Crossings.{crossed-next, crossed-all}
 use borrow.Author.Needs.{needs}
 use Rattle.calls.proofs.crossing.flat_into.Statement.{statement}

@@ -5,9 +5,9 @@ use mathlib.Core.List.{map}
 use native.Mathlib.Omega.{arith}
 use lib.ListN.{length, take, length-set}
 use Rattle.book.specs.Scopes.{unused}
-use Rattle.tables.specs.Entries.{entries}
+use Rattle.tables_model.specs.Entries.{entries}
 use Rattle.tables.proofs.Flat.{entries-length}
-use Rattle.calls.specs.Perform.{structOf}
+use Rattle.calls_model.specs.Perform.{structOf}
 use Rattle.calls.proofs.Crossings.{crossed-next, crossed-all}
 use Rattle.calls.proofs.crossing.table_from.Statement.{statement}
 use Rattle.calls.proofs.crossing.table_from.Tie as tie

@@ -3,9 +3,9 @@ use mathlib.Core.Path.{_≡_, _∙_}
 use mir.Syntax.{w32}
 use mir.Facts.{toZ-ofZ}
 use Rattle.undo.proofs.Counters.{Counters, counters}
-use Rattle.calls.specs.Acts.{Core, core, acted}
-use Rattle.calls.specs.Perform.{controlIn}
-use Rattle.calls.specs.Requests.{callOf}
+use Rattle.calls_model.specs.Acts.{Core, core, acted}
+use Rattle.calls_model.specs.Perform.{controlIn}
+use Rattle.calls_model.specs.Requests.{callOf}
 use Rattle.calls.proofs.CountersAfter.{counters-acted}
 use Rattle.calls.proofs.Performing.{when-cut, when-done}
 use borrow.Author.Needs.{needs}

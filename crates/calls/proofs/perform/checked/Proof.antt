@@ -2,7 +2,7 @@
 use mathlib.Core.Path.{_≡_, sym, _∙_}
 use lib.ListN.{length}
 use borrow.Author.Tests.{not-true, not-false}
-use Rattle.calls.specs.Requests.{callOf}
+use Rattle.calls_model.specs.Requests.{callOf}
 use Rattle.calls.proofs.Performing.{when-closed, when-incoherent, when-coherent}
 use borrow.Author.Needs.{needs}
 use Rattle.calls.proofs.perform.checked.Statement.{statement}

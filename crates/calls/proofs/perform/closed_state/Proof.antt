@@ -1,5 +1,5 @@
 -- `calls::perform::closed_state` meets its contract. Assumes nothing.
-use Rattle.tables.specs.Visits.{noTables}
+use Rattle.tables_model.specs.Visits.{noTables}
 use borrow.Author.Needs.{needs}
 use Rattle.calls.proofs.perform.closed_state.Statement.{statement}
 use Rattle.calls.proofs.perform.closed_state.Tie as tie

@@ -3,9 +3,9 @@ use Prim.Native.Nat.{_+_}
 use mathlib.Core.Path.{_≡_, sym, _∙_}
 use mathlib.Core.List.{map}
 use native.Mathlib.Omega.{arith}
-use Rattle.calls.specs.Perform.{entryIn, world}
-use Rattle.calls.specs.Refusals.{refusalBy}
-use Rattle.calls.specs.Requests.{callOf}
+use Rattle.calls_model.specs.Perform.{entryIn, world}
+use Rattle.calls_model.specs.Refusals.{refusalBy}
+use Rattle.calls_model.specs.Requests.{callOf}
 use Rattle.calls.proofs.Performing.{Coherent, coherent, when-refused, when-accepted}
 use borrow.Author.Needs.{needs}
 use Rattle.calls.proofs.perform.decide.Statement.{statement}

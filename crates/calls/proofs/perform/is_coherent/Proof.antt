@@ -2,7 +2,7 @@
 use Prim.Native.Nat.{_+_}
 use native.Mathlib.Omega.{arith}
 use borrow.Author.Tests.{le-leb, lt-leb}
-use Rattle.calls.specs.Perform.{isCoherent}
+use Rattle.calls_model.specs.Perform.{isCoherent}
 use borrow.Author.Needs.{needs}
 use Rattle.calls.proofs.perform.is_coherent.Statement.{statement}
 use Rattle.calls.proofs.perform.is_coherent.Tie as tie

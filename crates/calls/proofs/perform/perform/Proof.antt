@@ -3,8 +3,8 @@ use mathlib.Core.Path.{_∙_}
 use lib.ListN.{length}
 use borrow.Author.Tests.{eq-eqb, ne-eqb}
 use Rattle.state.specs.World.{World}
-use Rattle.calls.specs.Perform.{world}
-use Rattle.calls.specs.Requests.{callOf}
+use Rattle.calls_model.specs.Perform.{world}
+use Rattle.calls_model.specs.Requests.{callOf}
 use Rattle.calls.proofs.Performing.{wrong-length}
 use borrow.Author.Needs.{needs}
 use Rattle.calls.proofs.perform.perform.Statement.{statement}

@@ -1,5 +1,5 @@
 -- `calls::refuse::refuse` meets its contract. Assumes nothing.
-use Rattle.calls.specs.Refusals.{refusalBy}
+use Rattle.calls_model.specs.Refusals.{refusalBy}
 use borrow.Author.Needs.{needs}
 use Rattle.calls.proofs.refuse.refuse.Statement.{statement}
 use Rattle.calls.proofs.refuse.refuse.Tie as tie

@@ -1,6 +1,6 @@
 -- `calls::refuse::refuse_begin` meets its contract. Assumes nothing.
 use borrow.Author.Tests.{le-leb, lt-leb}
-use Rattle.calls.specs.Refusals.{refusalBy}
+use Rattle.calls_model.specs.Refusals.{refusalBy}
 use borrow.Author.Needs.{needs}
 use Rattle.calls.proofs.refuse.refuse_begin.Statement.{statement}
 use Rattle.calls.proofs.refuse.refuse_begin.Tie as tie

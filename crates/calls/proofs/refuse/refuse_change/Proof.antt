@@ -1,5 +1,5 @@
 -- `calls::refuse::refuse_change` meets its contract. Assumes nothing.
-use Rattle.calls.specs.Refusals.{refusalBy}
+use Rattle.calls_model.specs.Refusals.{refusalBy}
 use borrow.Author.Needs.{needs}
 use Rattle.calls.proofs.refuse.refuse_change.Statement.{statement}
 use Rattle.calls.proofs.refuse.refuse_change.Tie as tie

@@ -1,6 +1,6 @@
 -- `calls::refuse::refuse_hand_over` meets its contract. Assumes nothing.
 use borrow.Author.Tests.{eq-eqb, ne-eqb}
-use Rattle.calls.specs.Refusals.{refusalBy}
+use Rattle.calls_model.specs.Refusals.{refusalBy}
 use borrow.Author.Needs.{needs}
 use Rattle.calls.proofs.refuse.refuse_hand_over.Statement.{statement}
 use Rattle.calls.proofs.refuse.refuse_hand_over.Tie as tie

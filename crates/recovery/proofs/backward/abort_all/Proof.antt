@@ -5,10 +5,10 @@ use mathlib.Core.Path.{_≡_, refl, sym, _∙_}
 use native.Mathlib.Omega.{arith}
 use lib.ListN.{length, getD}
 use Rattle.book.specs.Rows.{Row}
-use Rattle.tables.specs.Visits.{vacant}
+use Rattle.tables_model.specs.Visits.{vacant}
 use Rattle.undo.proofs.Counters.{counters, counters-written, fits-again}
 use Rattle.undo.specs.Writing.{ram, Fits}
-use Rattle.recovery.specs.Backward.{abortAll}
+use Rattle.recovery_model.specs.Backward.{abortAll}
 use Rattle.recovery.proofs.BackwardSteps.{listing, abort-turn, abort-end, abort-listed}
 use Rattle.recovery.proofs.backward.abort_all.Statement.{statement}
 use Rattle.recovery.proofs.backward.abort_all.Tie as tie

@@ -6,7 +6,7 @@ use native.Mathlib.Omega.{arith}
 use lib.ListN.{length, length-replicate}
 use borrow.Author.Needs.{needs}
 use Rattle.state.specs.declared.ram.Phase.the-variants.{Open}
-use Rattle.tables.specs.declared.Whom.the-variants.{All}
+use Rattle.tables_model.specs.declared.Whom.the-variants.{All}
 use Rattle.undo.proofs.Counters.{Counters, counters, counters-fallAll, fits-again}
 use Rattle.undo.specs.TakeBack.{taking}
 use Rattle.undo.specs.Writing.{ram, Fits}

@@ -1,7 +1,7 @@
 -- `recovery::look::before_found` meets its contract. Assumes nothing.
 use borrow.Author.Needs.{needs}
-use Rattle.tables.specs.declared.Found.the-variants.{At}
-use Rattle.tables.specs.Table.{Reaches}
+use Rattle.tables_model.specs.declared.Found.the-variants.{At}
+use Rattle.tables_model.specs.Table.{Reaches}
 use Rattle.recovery.proofs.look.before_found.Statement.{statement}
 use Rattle.recovery.proofs.look.before_found.Tie as tie
 

@@ -3,8 +3,8 @@
 use Prim.Native.Nat.{_≤_}
 use mathlib.Core.Path.{_≡_, refl, sym, _∙_}
 use native.Mathlib.Omega.{arith}
-use Rattle.tables.specs.Meaning.{previous}
-use Rattle.recovery.specs.Scan.{rowIn}
+use Rattle.tables_model.specs.Meaning.{previous}
+use Rattle.recovery_model.specs.Scan.{rowIn}
 use Rattle.recovery.proofs.LookUps.{search-end, search-stop, search-hit, search-on}
 use Rattle.recovery.proofs.look.before_last.Statement.{statement}
 use Rattle.recovery.proofs.look.before_last.Tie as tie

@@ -3,8 +3,8 @@ use mathlib.Core.Path.{refl, sym, ap, _∙_}
 use lib.ListN.{length}
 use borrow.Author.Tests.{not-true, not-false}
 use borrow.Author.Needs.{needs}
-use Rattle.recovery.specs.Openings.{checkedBy, opensBy}
-use Rattle.recovery.specs.Scan.{Scanned}
+use Rattle.recovery_model.specs.Openings.{checkedBy, opensBy}
+use Rattle.recovery_model.specs.Scan.{Scanned}
 use Rattle.recovery.proofs.Bounds.{scanned-bounded}
 use Rattle.recovery.proofs.Sizes.{Lengths, lengths-are}
 use Rattle.recovery.proofs.open.open.Statement.{statement}

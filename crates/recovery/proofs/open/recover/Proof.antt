@@ -1,7 +1,7 @@
 -- `recovery::open::recover` meets its contract. Assumes nothing.
 use mathlib.Core.Path.{refl, sym, _∙_}
 use borrow.Author.Needs.{needs}
-use Rattle.tables.specs.Rows.{index}
+use Rattle.tables_model.specs.Rows.{index}
 use Rattle.journal.proofs.Shifts.{copied}
 use Rattle.recovery.proofs.BackwardSteps.{counters-backward}
 use Rattle.recovery.proofs.open.recover.Statement.{statement}

@@ -1,6 +1,6 @@
 -- `recovery::open::settle` meets its contract. Assumes nothing.
 use borrow.Author.Needs.{needs}
-use Rattle.recovery.specs.Openings.{settledOpening}
+use Rattle.recovery_model.specs.Openings.{settledOpening}
 use Rattle.recovery.proofs.open.settle.Statement.{statement}
 use Rattle.recovery.proofs.open.settle.Tie as tie
 

@@ -3,7 +3,7 @@ use mathlib.Core.Path.{ap, _∙_}
 use borrow.Author.Tests.{eq-eqb, ne-eqb}
 use borrow.Author.Needs.{needs}
 use Rattle.book.specs.Cells.{touches}
-use Rattle.recovery.specs.Scan.{rowIn}
+use Rattle.recovery_model.specs.Scan.{rowIn}
 use Rattle.recovery.proofs.PageTurns.{effect-coded}
 use Rattle.recovery.proofs.pages.mark_ok.Statement.{statement}
 use Rattle.recovery.proofs.pages.mark_ok.Tie as tie

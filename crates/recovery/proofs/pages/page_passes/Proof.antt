@@ -1,7 +1,7 @@
 -- `recovery::pages::page_passes` meets its contract. Assumes nothing.
 use mathlib.Core.Path.{_∙_}
 use borrow.Author.Needs.{needs}
-use Rattle.recovery.specs.Charts.{isPageBy}
+use Rattle.recovery_model.specs.Charts.{isPageBy}
 use Rattle.recovery.proofs.pages.page_passes.Statement.{statement}
 use Rattle.recovery.proofs.pages.page_passes.Tie as tie
 

@@ -4,7 +4,7 @@ use mathlib.Core.Path.{_≡_, _∙_}
 use native.Mathlib.Omega.{arith}
 use lib.ListN.{length-take, length-drop}
 use Rattle.book.specs.Pages.{pageAt}
-use Rattle.recovery.specs.Charts.{redoPage, redoCharts}
+use Rattle.recovery_model.specs.Charts.{redoPage, redoCharts}
 use Rattle.recovery.proofs.Laying.{Laid, laid-none, laid-next, laid-length, laid-all, behind}
 use Rattle.recovery.proofs.pages.redo.Statement.{statement}
 use Rattle.recovery.proofs.pages.redo.Tie as tie

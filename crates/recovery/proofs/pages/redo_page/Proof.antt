@@ -1,7 +1,7 @@
 -- `recovery::pages::redo_page` meets its contract. Assumes nothing.
 use mathlib.Core.Path.{_∙_}
 use borrow.Author.Needs.{needs}
-use Rattle.recovery.specs.Charts.{redoPage}
+use Rattle.recovery_model.specs.Charts.{redoPage}
 use Rattle.recovery.proofs.pages.redo_page.Statement.{statement}
 use Rattle.recovery.proofs.pages.redo_page.Tie as tie
 

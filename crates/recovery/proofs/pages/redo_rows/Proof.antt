@@ -4,7 +4,7 @@ use Prim.Native.Nat.{_+_, _-_, _*_}
 use mathlib.Core.Path.{_≡_, refl, sym, _∙_}
 use native.Mathlib.Omega.{arith}
 use lib.ListN.{length, length-take, length-drop}
-use Rattle.recovery.specs.Charts.{redoFrom}
+use Rattle.recovery_model.specs.Charts.{redoFrom}
 use Rattle.recovery.proofs.PageTurns.{redo-turn, redo-end}
 use Rattle.recovery.proofs.pages.redo_rows.Statement.{statement}
 use Rattle.recovery.proofs.pages.redo_rows.Tie as tie

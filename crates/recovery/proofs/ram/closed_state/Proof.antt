@@ -1,6 +1,6 @@
 -- `recovery::ram::closed_state` meets its contract. Assumes nothing.
 use borrow.Author.Needs.{needs}
-use Rattle.tables.specs.Visits.{noTables}
+use Rattle.tables_model.specs.Visits.{noTables}
 use Rattle.recovery.proofs.ram.closed_state.Statement.{statement}
 use Rattle.recovery.proofs.ram.closed_state.Tie as tie
 

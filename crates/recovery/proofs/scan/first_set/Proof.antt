@@ -3,7 +3,7 @@ use Prim.Native.Nat.{_+_, _-_, _*_}
 use mathlib.Core.Path.{_≡_, refl, sym, _∙_}
 use native.Mathlib.Omega.{arith}
 use lib.ListN.{length-take, length-drop}
-use Rattle.recovery.specs.Scan.{firstSet}
+use Rattle.recovery_model.specs.Scan.{firstSet}
 use Rattle.recovery.proofs.ScanTurns.{blank-turn, set-turn, set-end}
 use Rattle.recovery.proofs.scan.first_set.Statement.{statement}
 use Rattle.recovery.proofs.scan.first_set.Tie as tie

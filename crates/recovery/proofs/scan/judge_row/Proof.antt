@@ -4,7 +4,7 @@ use mathlib.Core.Path.{_≡_, sym, _∙_}
 use native.Mathlib.Numerals.{add-one}
 use native.Mathlib.Omega.{arith}
 use borrow.Author.Needs.{needs}
-use Rattle.recovery.specs.Scan.{judgeRow}
+use Rattle.recovery_model.specs.Scan.{judgeRow}
 use Rattle.recovery.proofs.scan.judge_row.Statement.{statement}
 use Rattle.recovery.proofs.scan.judge_row.Tie as tie
 

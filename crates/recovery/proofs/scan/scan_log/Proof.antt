@@ -1,10 +1,10 @@
 -- `recovery::scan::scan_log` meets its contract. Assumes nothing.
 use mathlib.Core.Path.{_≡_, _∙_}
 use borrow.Author.Needs.{needs}
-use Rattle.tables.specs.Visits.{noTables}
-use Rattle.recovery.specs.Openings.{noIndex}
-use Rattle.recovery.specs.Checking.{found}
-use Rattle.recovery.specs.Scan.{scanFrom}
+use Rattle.tables_model.specs.Visits.{noTables}
+use Rattle.recovery_model.specs.Openings.{noIndex}
+use Rattle.recovery_model.specs.Checking.{found}
+use Rattle.recovery_model.specs.Scan.{scanFrom}
 use Rattle.recovery.proofs.ScanTurns.{none-range, all-rows, bad-row}
 use Rattle.recovery.proofs.scan.scan_log.Statement.{statement}
 use Rattle.recovery.proofs.scan.scan_log.Tie as tie

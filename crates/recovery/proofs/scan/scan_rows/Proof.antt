@@ -5,9 +5,9 @@ use mathlib.Core.Path.{_≡_, refl, sym, _∙_}
 use native.Mathlib.Omega.{arith}
 use lib.ListN.{length}
 use borrow.Author.Needs.{needs}
-use Rattle.tables.specs.Rows.{index}
-use Rattle.tables.specs.Visits.{InRange}
-use Rattle.recovery.specs.Scan.{scanFrom}
+use Rattle.tables_model.specs.Rows.{index}
+use Rattle.tables_model.specs.Visits.{InRange}
+use Rattle.recovery_model.specs.Scan.{scanFrom}
 use Rattle.recovery.proofs.ScanTurns.{taken-turn, ends-turn, bad-turn, scan-end, judged-range}
 use Rattle.recovery.proofs.scan.scan_rows.Statement.{statement}
 use Rattle.recovery.proofs.scan.scan_rows.Tie as tie

@@ -1,18 +1,14 @@
 -- `rows::table::byte_ok` meets its contract. Assumes nothing.
 use mathlib.Core.Path.{sym}
 use Rattle.rows.proofs.Loops.{ok-zero, ok-other}
-use borrow.Author.Needs.{needs}
 use Rattle.rows.proofs.table.byte_ok.Statement.{statement}
 use Rattle.rows.proofs.table.byte_ok.Tie as tie
 
-may-be-requires : tie.Need-may-be-requires
-may-be-requires c κs = search needs
-
 returns : tie.Need-returns
-returns c = rw (← (c .before .may-be .ensures)) (sym (ok-zero _ _ (c .if1 .taken)))
+returns c = sym (ok-zero _ _ (c .if1 .taken))
 
 returns-2 : tie.Need-returns-2
-returns-2 c = rw (← (c .before .may-be .ensures)) (sym (ok-other _ _ (c .if1 .left)))
+returns-2 c = sym (ok-other _ _ (c .if1 .left))
 
 pub byte-ok-spec : {M : Type 1} → statement M
-byte-ok-spec = tie.close (tie.spec may-be-requires returns returns-2)
+byte-ok-spec = tie.close (tie.spec returns returns-2)

@@ -10,19 +10,25 @@ use Rattle.rows.proofs.table.put_by_table.Statement.{statement}
 use Rattle.rows.proofs.table.put_by_table.Tie as tie
 
 abbrev Inv-loop : tie.InvT-loop
-Inv-loop b₀ kind f i₀ b i = (i ≤ 16) × (length b ≡ length b₀) × (fill 16 0 kind f b₀ ≡ fill (16 - i) i kind f b)
+Inv-loop b₀ kind f line i₀ b i = (i ≤ 16) × (length b ≡ length b₀) × (fill 16 0 kind f b₀ ≡ fill (16 - i) i kind f b)
 
 abbrev μ-loop : tie.MeasureT-loop
-μ-loop b₀ kind f i₀ b i = 16 - i
+μ-loop b₀ kind f line i₀ b i = 16 - i
+
+line-of-requires : tie.Need-line-of-requires Inv-loop μ-loop
+line-of-requires c κs = search needs
 
 loop-holds : tie.Need-loop-holds Inv-loop μ-loop
 loop-holds c = (search needs, refl, refl)
+
+array-read-byte-or-zero : tie.Need-array-read-byte-or-zero Inv-loop μ-loop
+array-read-byte-or-zero c = omega arith
 
 element-copy-out-byte-or-zero : tie.Need-element-copy-out-byte-or-zero Inv-loop μ-loop
 element-copy-out-byte-or-zero c = omega arith
 
 byte-or-zero-requires : tie.Need-byte-or-zero-requires Inv-loop μ-loop
-byte-or-zero-requires c κs = omega arith
+byte-or-zero-requires c κs = search needs
 
 slice-write-b : tie.Need-slice-write-b Inv-loop μ-loop
 slice-write-b c = omega arith
@@ -35,10 +41,11 @@ loop-less c = omega arith
 
 loop-again : tie.Need-loop-again Inv-loop μ-loop
 loop-again c =
-    let l = c .before .before .before .loop in (
+    let l = c .before .before .before .loop in
+    let put = rw (c .before .before .before .before .line-of .ensures) at (c .byte-or-zero .ensures) in (
       omega arith,
       simp length-set (l .inv .1),
-      l .inv .2 ∙ fill-step (l .i) 16 _ _ _ (omega arith) ∙ rw (← (c .byte-or-zero .ensures)),
+      l .inv .2 ∙ fill-step (l .i) 16 _ _ _ (omega arith) ∙ rw (← put),
     )
 
 same-length : tie.Need-same-length Inv-loop μ-loop
@@ -53,7 +60,9 @@ put-by-table-spec =
     (tie.spec
     Inv-loop
     μ-loop
+    line-of-requires
     loop-holds
+    array-read-byte-or-zero
     element-copy-out-byte-or-zero
     byte-or-zero-requires
     slice-write-b

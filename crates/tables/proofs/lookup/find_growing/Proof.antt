@@ -5,9 +5,9 @@ use mathlib.Core.Path.{_≡_, refl, sym, _∙_}
 use native.Mathlib.Omega.{arith}
 use lib.ListN.{getD, take}
 use Rattle.book.specs.Scopes.{unused}
-use Rattle.tables.specs.declared.Found.the-variants.{At}
-use Rattle.tables.specs.Entries.{entries}
-use Rattle.tables.specs.Table.{findFrom, find, grows}
+use Rattle.tables_model.specs.declared.Found.the-variants.{At}
+use Rattle.tables_model.specs.Entries.{entries}
+use Rattle.tables_model.specs.Table.{findFrom, find, grows}
 use Rattle.tables.proofs.Loops.{left, left-end}
 use Rattle.tables.proofs.Searches.{find-next}
 use Rattle.tables.proofs.lookup.find_growing.Statement.{statement}

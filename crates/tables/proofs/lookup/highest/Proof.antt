@@ -4,8 +4,8 @@ use mathlib.Core.Path.{_≡_, refl, sym, _∙_}
 use native.Mathlib.Omega.{arith}
 use lib.ListN.{getD, take}
 use Rattle.book.specs.Scopes.{unused}
-use Rattle.tables.specs.Table.{betterOf, highestFrom, highest}
-use Rattle.tables.specs.Entries.{entries}
+use Rattle.tables_model.specs.Table.{betterOf, highestFrom, highest}
+use Rattle.tables_model.specs.Entries.{entries}
 use Rattle.tables.proofs.Loops.{left, left-end}
 use Rattle.tables.proofs.Searches.{highest-next}
 use Rattle.tables.proofs.lookup.highest.Statement.{statement}

@@ -6,8 +6,8 @@ use native.Mathlib.Omega.{arith}
 use lib.ListN.{getD, take}
 use Rattle.book.specs.Scopes.{unused}
 use Rattle.book.specs.Lists.{any}
-use Rattle.tables.specs.Entries.{entries}
-use Rattle.tables.specs.Table.{isHeld, holdsCell}
+use Rattle.tables_model.specs.Entries.{entries}
+use Rattle.tables_model.specs.Table.{isHeld, holdsCell}
 use Rattle.tables.proofs.Loops.{left, left-end}
 use Rattle.tables.proofs.Searches.{any-next}
 use Rattle.tables.proofs.lookup.holds_cell.Statement.{statement}

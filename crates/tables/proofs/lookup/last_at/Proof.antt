@@ -1,7 +1,7 @@
 -- `tables::lookup::last_at` meets its contract. Assumes nothing.
 use borrow.Author.Needs.{needs}
-use Rattle.tables.specs.declared.Found.the-variants.{At}
-use Rattle.tables.specs.Table.{Reaches}
+use Rattle.tables_model.specs.declared.Found.the-variants.{At}
+use Rattle.tables_model.specs.Table.{Reaches}
 use Rattle.tables.proofs.lookup.last_at.Statement.{statement}
 use Rattle.tables.proofs.lookup.last_at.Tie as tie
 

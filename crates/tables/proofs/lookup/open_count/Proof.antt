@@ -3,8 +3,8 @@ use Prim.Native.Nat.{_*_, _+_, _-_, _≤_}
 use mathlib.Core.Path.{_≡_, _∙_}
 use native.Mathlib.Omega.{arith}
 use lib.ListN.{take}
-use Rattle.tables.specs.Entries.{entries}
-use Rattle.tables.specs.Table.{countAll, openCount}
+use Rattle.tables_model.specs.Entries.{entries}
+use Rattle.tables_model.specs.Table.{countAll, openCount}
 use Rattle.tables.proofs.Loops.{left, left-end}
 use Rattle.tables.proofs.Searches.{count-next}
 use Rattle.tables.proofs.lookup.open_count.Statement.{statement}

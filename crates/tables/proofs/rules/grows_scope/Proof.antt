@@ -1,6 +1,6 @@
 -- `tables::rules::grows_scope` meets its contract. Assumes nothing.
 use borrow.Author.Needs.{needs}
-use Rattle.tables.specs.Rows.{growsBy}
+use Rattle.tables_model.specs.Rows.{growsBy}
 use Rattle.tables.proofs.rules.grows_scope.Statement.{statement}
 use Rattle.tables.proofs.rules.grows_scope.Tie as tie
 

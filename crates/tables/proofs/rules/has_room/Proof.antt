@@ -1,6 +1,6 @@
 -- `tables::rules::has_room` meets its contract. Assumes nothing.
 use borrow.Author.Needs.{needs}
-use Rattle.tables.specs.Rows.{roomBy}
+use Rattle.tables_model.specs.Rows.{roomBy}
 use Rattle.tables.proofs.rules.has_room.Statement.{statement}
 use Rattle.tables.proofs.rules.has_room.Tie as tie
 

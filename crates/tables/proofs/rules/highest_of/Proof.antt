@@ -1,6 +1,6 @@
 -- `tables::rules::highest_of` meets its contract. Assumes nothing.
 use borrow.Author.Needs.{needs}
-use Rattle.tables.specs.Rows.{highestOf}
+use Rattle.tables_model.specs.Rows.{highestOf}
 use Rattle.tables.proofs.Verdicts.{reaches}
 use Rattle.tables.proofs.rules.highest_of.Statement.{statement}
 use Rattle.tables.proofs.rules.highest_of.Tie as tie

@@ -2,7 +2,7 @@
 use borrow.Author.Needs.{needs}
 use mir.Syntax.{w16}
 use mir.Facts.{toZ-ofZ}
-use Rattle.tables.specs.Rows.{lawfulBy}
+use Rattle.tables_model.specs.Rows.{lawfulBy}
 use Rattle.tables.proofs.rules.is_lawful.Statement.{statement}
 use Rattle.tables.proofs.rules.is_lawful.Tie as tie
 

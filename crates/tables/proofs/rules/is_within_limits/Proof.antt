@@ -1,6 +1,6 @@
 -- `tables::rules::is_within_limits` meets its contract. Assumes nothing.
 use borrow.Author.Needs.{needs}
-use Rattle.tables.specs.Rows.{withinLimitsBy}
+use Rattle.tables_model.specs.Rows.{withinLimitsBy}
 use Rattle.tables.proofs.rules.is_within_limits.Statement.{statement}
 use Rattle.tables.proofs.rules.is_within_limits.Tie as tie
 

@@ -1,7 +1,7 @@
 -- `tables::rules::judge` meets its contract. Assumes nothing.
 use borrow.Author.Tests.{not-true, not-false}
 use borrow.Author.Needs.{needs}
-use Rattle.tables.specs.Rows.{judgeBy}
+use Rattle.tables_model.specs.Rows.{judgeBy}
 use Rattle.tables.proofs.rules.judge.Statement.{statement}
 use Rattle.tables.proofs.rules.judge.Tie as tie
 

@@ -4,7 +4,7 @@ use mathlib.Core.Bool.{true, false}
 use lib.Dec.{eqb}
 use borrow.Author.Tests.{eq-eqb, ne-eqb, not-true, not-false}
 use borrow.Author.Needs.{needs}
-use Rattle.tables.specs.Visits.{isListed, isBearing}
+use Rattle.tables_model.specs.Visits.{isListed, isBearing}
 use Rattle.tables.proofs.rules.may_hand_over.Statement.{statement}
 use Rattle.tables.proofs.rules.may_hand_over.Tie as tie
 

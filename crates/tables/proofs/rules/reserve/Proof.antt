@@ -1,7 +1,7 @@
 -- `tables::rules::reserve` meets its contract. Assumes nothing.
 use native.Mathlib.Omega.{arith}
 use borrow.Author.Needs.{needs}
-use Rattle.tables.specs.Rows.{reserveBy}
+use Rattle.tables_model.specs.Rows.{reserveBy}
 use Rattle.tables.proofs.rules.reserve.Statement.{statement}
 use Rattle.tables.proofs.rules.reserve.Tie as tie
 

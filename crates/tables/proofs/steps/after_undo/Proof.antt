@@ -2,7 +2,7 @@
 use mathlib.Core.Path.{sym, _∙_}
 use native.Mathlib.Omega.{arith}
 use borrow.Author.Needs.{needs}
-use Rattle.tables.specs.Table.{scopesUndone}
+use Rattle.tables_model.specs.Table.{scopesUndone}
 use Rattle.tables.proofs.Searches.{highest-below}
 use Rattle.tables.proofs.steps.after_undo.Statement.{statement}
 use Rattle.tables.proofs.steps.after_undo.Tie as tie

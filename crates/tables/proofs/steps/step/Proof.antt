@@ -1,6 +1,6 @@
 -- `tables::steps::step` meets its contract. Assumes nothing.
 use borrow.Author.Needs.{needs}
-use Rattle.tables.specs.Rows.{stepBy}
+use Rattle.tables_model.specs.Rows.{stepBy}
 use Rattle.tables.proofs.steps.step.Statement.{statement}
 use Rattle.tables.proofs.steps.step.Tie as tie
 

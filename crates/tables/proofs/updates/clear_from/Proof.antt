@@ -5,7 +5,7 @@ use native.Mathlib.Omega.{arith}
 use lib.Seq.{length-take-le}
 use lib.ListN.{length}
 use Rattle.book.specs.Scopes.{unused}
-use Rattle.tables.specs.Entries.{entries}
+use Rattle.tables_model.specs.Entries.{entries}
 use Rattle.tables.proofs.Loops.{filled, filled-next, filled-end}
 use Rattle.tables.proofs.Flat.{entries-length}
 use Rattle.tables.proofs.updates.clear_from.Statement.{statement}

@@ -4,8 +4,8 @@ use mathlib.Core.Path.{_≡_, refl, sym, _∙_, ap}
 use native.Mathlib.Omega.{arith}
 use lib.Seq.{length-take-le}
 use lib.ListN.{length}
-use Rattle.tables.specs.Table.{leftBy, Scopes, scopesIn}
-use Rattle.tables.specs.Entries.{entries}
+use Rattle.tables_model.specs.Table.{leftBy, Scopes, scopesIn}
+use Rattle.tables_model.specs.Entries.{entries}
 use Rattle.tables.proofs.Ending.{heldByOther, Move, move}
 use Rattle.tables.proofs.Loops.{ranks, ranks-end}
 use Rattle.tables.proofs.Flat.{entries-length}

@@ -1,6 +1,6 @@
 -- `tables::updates::end_visit` meets its contract. Assumes nothing.
 use borrow.Author.Needs.{needs}
-use Rattle.tables.specs.Table.{scopesEnded}
+use Rattle.tables_model.specs.Table.{scopesEnded}
 use Rattle.tables.proofs.updates.end_visit.Statement.{statement}
 use Rattle.tables.proofs.updates.end_visit.Tie as tie
 

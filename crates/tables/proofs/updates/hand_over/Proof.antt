@@ -4,8 +4,8 @@ use mathlib.Core.Path.{_≡_, refl, _∙_}
 use native.Mathlib.Omega.{arith}
 use lib.ListN.{length}
 use Rattle.book.specs.Scopes.{unused}
-use Rattle.tables.specs.Table.{handedOn, scopesHanded}
-use Rattle.tables.specs.Entries.{entries}
+use Rattle.tables_model.specs.Table.{handedOn, scopesHanded}
+use Rattle.tables_model.specs.Entries.{entries}
 use Rattle.tables.proofs.Loops.{mapped, mapped-next}
 use Rattle.tables.proofs.Flat.{entries-length}
 use Rattle.tables.proofs.updates.hand_over.Statement.{statement}

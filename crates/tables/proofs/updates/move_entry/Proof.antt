@@ -2,7 +2,7 @@
 use native.Mathlib.Numerals.{add-one}
 use borrow.Author.Tests.{eq-eqb, ne-eqb}
 use borrow.Author.Needs.{needs}
-use Rattle.tables.specs.Table.{movedAt}
+use Rattle.tables_model.specs.Table.{movedAt}
 use Rattle.tables.proofs.updates.move_entry.Statement.{statement}
 use Rattle.tables.proofs.updates.move_entry.Tie as tie
 

@@ -4,8 +4,8 @@ use native.Mathlib.Numerals.{add-one}
 use native.Mathlib.Omega.{arith}
 use lib.ListN.{length}
 use borrow.Author.Needs.{needs}
-use Rattle.tables.specs.Entries.{Inside}
-use Rattle.tables.specs.Table.{scopesChanged}
+use Rattle.tables_model.specs.Entries.{Inside}
+use Rattle.tables_model.specs.Table.{scopesChanged}
 use Rattle.tables.proofs.Searches.{find-below}
 use Rattle.tables.proofs.updates.note_change.Statement.{statement}
 use Rattle.tables.proofs.updates.note_change.Tie as tie

@@ -5,7 +5,7 @@ use mathlib.Core.Path.{_≡_, refl, sym, _∙_}
 use native.Mathlib.Omega.{arith}
 use lib.ListN.{length-map, length, take}
 use Rattle.book.specs.Lists.{any}
-use Rattle.tables.specs.Visits.{isBearing, isBearer, vacant}
+use Rattle.tables_model.specs.Visits.{isBearing, isBearer, vacant}
 use Rattle.tables.proofs.Loops.{left, left-next, left-end}
 use Rattle.tables.proofs.visits.is_bearing.Statement.{statement}
 use Rattle.tables.proofs.visits.is_bearing.Tie as tie

@@ -1,7 +1,7 @@
 -- `tables::visits::kept_at` meets its contract. Assumes nothing.
 use native.Mathlib.Numerals.{add-one}
 use borrow.Author.Needs.{needs}
-use Rattle.tables.specs.Visits.{keptAt}
+use Rattle.tables_model.specs.Visits.{keptAt}
 use Rattle.tables.proofs.visits.kept_at.Statement.{statement}
 use Rattle.tables.proofs.visits.kept_at.Tie as tie
 

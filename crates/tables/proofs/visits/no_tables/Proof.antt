@@ -1,6 +1,6 @@
 -- `tables::visits::no_tables` meets its contract. Assumes nothing.
 use mathlib.Core.Path.{refl}
-use Rattle.tables.specs.Visits.{noTables}
+use Rattle.tables_model.specs.Visits.{noTables}
 use Rattle.tables.proofs.visits.no_tables.Statement.{statement}
 use Rattle.tables.proofs.visits.no_tables.Tie as tie
 

@@ -4,7 +4,7 @@ use mathlib.Core.Path.{_≡_, refl, sym, _∙_}
 use native.Mathlib.Omega.{arith}
 use lib.Seq.{length-take-le}
 use lib.ListN.{length-set, length-map, length}
-use Rattle.tables.specs.Visits.{vacated, vacant}
+use Rattle.tables_model.specs.Visits.{vacated, vacant}
 use Rattle.tables.proofs.Loops.{filled, filled-next, filled-end}
 use Rattle.tables.proofs.visits.vacate.Statement.{statement}
 use Rattle.tables.proofs.visits.vacate.Tie as tie

@@ -1,7 +1,7 @@
 -- `tables::visits::with_begun` meets its contract. Assumes nothing.
 use native.Mathlib.Numerals.{add-one}
 use borrow.Author.Needs.{needs}
-use Rattle.tables.specs.Visits.{withBegun}
+use Rattle.tables_model.specs.Visits.{withBegun}
 use Rattle.tables.proofs.visits.with_begun.Statement.{statement}
 use Rattle.tables.proofs.visits.with_begun.Tie as tie
 

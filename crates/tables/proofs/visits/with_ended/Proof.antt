@@ -1,6 +1,6 @@
 -- `tables::visits::with_ended` meets its contract. Assumes nothing.
 use borrow.Author.Needs.{needs}
-use Rattle.tables.specs.Visits.{vacated, withEnded}
+use Rattle.tables_model.specs.Visits.{vacated, withEnded}
 use Rattle.tables.proofs.visits.with_ended.Statement.{statement}
 use Rattle.tables.proofs.visits.with_ended.Tie as tie
 

@@ -3,7 +3,7 @@ use Prim.Native.Nat.{_-_, _≤_, _<_}
 use mathlib.Core.Path.{_≡_, refl, sym, _∙_}
 use native.Mathlib.Omega.{arith}
 use lib.ListN.{length-map, length}
-use Rattle.tables.specs.Visits.{withUndo, marked, vacant}
+use Rattle.tables_model.specs.Visits.{withUndo, marked, vacant}
 use Rattle.tables.proofs.Loops.{mapped, mapped-next}
 use Rattle.tables.proofs.visits.with_undo.Statement.{statement}
 use Rattle.tables.proofs.visits.with_undo.Tie as tie

@@ -2,7 +2,7 @@
 use Prim.Native.Nat.{_-_, _≤_}
 use mathlib.Core.Path.{_≡_, refl, sym, _∙_}
 use native.Mathlib.Omega.{arith}
-use Rattle.tables.specs.Meaning.{previous}
+use Rattle.tables_model.specs.Meaning.{previous}
 use Rattle.journal.specs.Journal.{journal}
 use Rattle.undo.specs.Looking.{lookUp}
 use Rattle.undo.proofs.LookUps.{no-row-zero, stops, finds, passes}

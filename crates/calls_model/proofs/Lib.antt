@@ -1,0 +1,11 @@
+pub mod Refusing
+pub mod EntryStructs
+pub mod Cores
+pub mod RowCalls
+pub mod AbortCall
+pub mod StoringCalls
+pub mod AcceptedCalls
+pub mod AnyWorld
+pub mod ByTheBook
+pub mod Post
+pub mod Values

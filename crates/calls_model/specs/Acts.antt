@@ -1,0 +1,118 @@
+-- What an accepted call does to journal, copy, charts and tables.
+use Prim.Native.Nat.{ℕ, suc, _+_, _-_}
+use mathlib.Core.Path.{_≡_}
+use mathlib.Core.Bool.{cond}
+use mathlib.Core.List.{List}
+use lib.ListN.{length}
+use lib.IntN.{ℤ, pos}
+use lib.Dec.{leb}
+use Rattle.book.specs.Rows.{Row}
+use Rattle.book.specs.Scopes.{Scope}
+use Rattle.book.specs.Calls.{Call}
+use Rattle.book.specs.Pages.{pageAt, pageOf, cellOf}
+use Rattle.tables_model.specs.declared.Tables.{Tables}
+use Rattle.tables_model.specs.Entries.{entries}
+use Rattle.tables_model.specs.Rows.{Ready, index}
+use Rattle.tables_model.specs.declared.Whom.the-variants.{One}
+use Rattle.tables_model.specs.Visits.{withBegun, withEnded, withUsed}
+use Rattle.tables_model.specs.Table.{Scopes, scopesChanged, scopesHanded, scopesEnded}
+use Rattle.journal.specs.declared.Control.{Control}
+use Rattle.journal.specs.Journal.{Journal, forced, forcedUpTo, Paged, paged}
+use Rattle.undo.specs.Writing.{Ram, ram, Fits, rowCount, written}
+use Rattle.undo.specs.TakeBack.{Taking, fallAll}
+use Rattle.calls_model.specs.Refusals.{refusalBy}
+
+-- all that an accepted call works on
+pub record Core : Type 0 where
+  pub ram : Ram
+  pub charts : List ℕ
+  pub tables : Tables
+  pub scopes : List Scope
+
+abbrev pub core : Control → Tables → List ℕ → List ℕ → List ℕ → List ℕ → List ℕ → Core
+core c t log charts copy tail scopes = record { ram = ram c log tail copy; charts = charts; tables = t; scopes = entries scopes }
+
+abbrev pub withRam : Core → Ram → Core
+withRam x m = record { ram = m; charts = x .charts; tables = x .tables; scopes = x .scopes }
+
+abbrev pub forcedRam : Ram → Ram
+forcedRam m = record { journal = forced (m .journal); copy = m .copy }
+
+-- the visit ends: its scopes are let go
+abbrev pub ended : Core → ℕ → Core
+ended x v =
+    let s : Scopes = scopesEnded (x .tables .used) v (x .scopes) in
+    record { ram = x .ram; charts = x .charts; tables = withEnded (x .tables) v (s .used); scopes = s .entries }
+
+abbrev pub changed : Core → ℕ → ℕ → ℤ → Core
+changed x v c a =
+    let s : Scopes = scopesChanged (x .tables .used) (suc (rowCount (x .ram .journal))) v c (x .scopes) in
+    record { ram = written (x .ram) (Row.change v c a); charts = x .charts; tables = withUsed (x .tables) (s .used); scopes = s .entries }
+
+-- the visit's open changes fall; at most as many as there are rows
+abbrev pub fell : Core → ℕ → Core
+fell x v =
+    let t : Taking = fallAll (rowCount (x .ram .journal)) (One (record { 0 = v })) (x .tables .used) (record { ram = x .ram; scopes = x .scopes }) in
+    record { ram = t .ram; charts = x .charts; tables = x .tables; scopes = t .scopes }
+
+-- 01: the waiting rows up to the page's mark, if that one waits
+abbrev pub upToMark : Core → ℕ → ℕ
+upToMark x p = pageOf (pageAt (x .ram .copy) p) .mark - x .ram .journal .control .stored
+
+-- the rows that flush stores; a mark beyond the rows (no sound copy has one) counts as none
+abbrev pub flushCount : Core → ℕ → ℕ
+flushCount x p = let m = upToMark x p in cond (leb m (x .ram .journal .control .waiting)) m 0
+
+abbrev pub flushed : Core → ℕ → Core
+flushed x p =
+    let j : Journal = forcedUpTo (flushCount x p) (x .ram .journal) in
+    let g : Paged = paged (j .control) (x .charts) p (pageAt (x .ram .copy) p) in
+    record {
+      ram = record { journal = record { control = g .control; log = j .log; tail = j .tail }; copy = x .ram .copy };
+      charts = g .charts;
+      tables = x .tables;
+      scopes = x .scopes;
+    }
+
+unfoldable pub acted : Core → Call → Core
+acted x Call.begin =
+    let v : ℕ = suc (x .tables .begun) in
+    record { ram = written (x .ram) (Row.begin v); charts = x .charts; tables = withBegun (x .tables) v; scopes = x .scopes }
+acted x (Call.change v c a) = changed x v c a
+acted x (Call.handOver g r c) =
+    record { ram = written (x .ram) (Row.handOver g r c); charts = x .charts; tables = x .tables; scopes = scopesHanded (x .tables .used) g r c (x .scopes) }
+acted x (Call.commit v) = ended (withRam x (forcedRam (written (x .ram) (Row.commit v)))) v
+acted x (Call.abort v) = let y : Core = fell x v in ended (withRam y (written (y .ram) (Row.abort v))) v
+acted x Call.force = withRam x (forcedRam (x .ram))
+acted x (Call.flush p) = flushed x p
+acted x (Call.read c) = x
+
+-- the value of an accepted call, by what it was given and what it left
+unfoldable pub valueBy : Core → Core → Call → ℤ
+valueBy x y Call.begin = pos (suc (x .tables .begun))
+valueBy x y (Call.change v c a) = pos (rowCount (y .ram .journal))
+valueBy x y (Call.handOver g r c) = pos (rowCount (y .ram .journal))
+valueBy x y (Call.commit v) = pos (rowCount (y .ram .journal))
+valueBy x y (Call.abort v) = pos (rowCount (y .ram .journal))
+valueBy x y Call.force = pos 0
+valueBy x y (Call.flush p) = pos 0
+valueBy x y (Call.read c) = cellOf (x .ram .copy) c
+
+-- the same by what is at hand after the call: the visits begun before it, and the control and the copy after it
+unfoldable pub valueNow : ℕ → Control → List ℕ → Call → ℤ
+valueNow begun c copy Call.begin = pos (suc begun)
+valueNow begun c copy (Call.change v k a) = pos (c .stored + c .waiting)
+valueNow begun c copy (Call.handOver g r k) = pos (c .stored + c .waiting)
+valueNow begun c copy (Call.commit v) = pos (c .stored + c .waiting)
+valueNow begun c copy (Call.abort v) = pos (c .stored + c .waiting)
+valueNow begun c copy Call.force = pos 0
+valueNow begun c copy (Call.flush p) = pos 0
+valueNow begun c copy (Call.read k) = cellOf copy k
+
+-- ── What the functions ask ────────────────────────────────────────────────────────────────────────────────────────────
+
+-- the call is accepted, and lengths and counters are right
+pub record Accepts (c : Control) (t : Tables) (log copy tail : ℕ) (scopes : List ℕ) (k : Call) : Type 0 where
+  pub fits : Fits c log tail copy
+  pub ready : Ready t (length scopes)
+  pub free : refusalBy (index t scopes) (c .stored + c .waiting) k ≡ 0

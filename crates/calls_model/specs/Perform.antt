@@ -1,0 +1,125 @@
+-- A call from its checks to what it gives back and leaves, for whatever it is handed.
+use Prim.Native.Nat.{ℕ, zero, suc, _+_, _%_}
+use mathlib.Core.Path.{_≡_}
+use mathlib.Core.Bool.{Bool, cond, not, _&&_}
+use mathlib.Core.List.{List, map}
+use lib.IntN.{ℤ, pos}
+use lib.Dec.{leb, eqb}
+use Rattle.book.specs.Limits.{logLength, chartsLength, rowLimit, tailLimit, activeLimit, scopeLimit}
+use Rattle.book.specs.Scopes.{Scope as Entry}
+use Rattle.book.specs.Calls.{Call}
+use Rattle.book.specs.Book.{_else_}
+use Rattle.tables_model.specs.declared.Tables.{Tables}
+use Rattle.state.specs.declared.ram.State.{State}
+use Rattle.state.specs.declared.ram.Scope.{Scope}
+use Rattle.state.specs.World.{World, rightLengths, isOpenPhase, scopeOf, cleared}
+use Rattle.state.specs.Contracts.{Result, result}
+use Rattle.journal.specs.declared.Control.{Control}
+use Rattle.undo.specs.Writing.{rowCount, isRunning}
+use Rattle.calls_model.specs.declared.Performed.{Performed}
+use Rattle.calls_model.specs.Refusals.{refusalBy}
+use Rattle.calls_model.specs.Acts.{Core, acted, valueBy}
+
+-- the counters are within their limits: what a state of the host's making may break
+unfoldable pub isCoherent : State → Bool
+isCoherent s =
+    leb (s .waiting) tailLimit && leb (s .stored + s .waiting) rowLimit && leb (s .tables .count) activeLimit && leb (s .tables .used) scopeLimit
+
+-- an entry of the lent table
+abbrev pub entryIn : Scope → Entry
+entryIn s = record {
+  maker = s .maker .0;
+  holder = s .holder .0;
+  cell = s .cell .0;
+  first = s .first .0;
+  last = s .last .0;
+  handed = s .handed;
+  count = s .count;
+}
+
+-- an entry as a struct of the lent table, whose cell has one byte; a cell of a sound table fits
+abbrev pub structOf : Entry → Scope
+structOf s = scopeOf (record {
+  maker = s .maker;
+  holder = s .holder;
+  cell = s .cell % 256;
+  first = s .first;
+  last = s .last;
+  handed = s .handed;
+  count = s .count;
+})
+
+abbrev pub controlIn : State → Control
+controlIn s = record { phase = s .phase; fuse = s .fuse; stored = s .stored; waiting = s .waiting }
+
+-- what a call works on
+unfoldable pub coreOf : World → Core
+coreOf w = record {
+  ram = record { journal = record { control = controlIn (w .state); log = w .log; tail = w .state .tail }; copy = w .copy };
+  charts = w .charts;
+  tables = w .state .tables;
+  scopes = map entryIn (w .scopes);
+}
+
+-- and what it leaves
+unfoldable pub worldIn : Core → World
+worldIn x = record {
+  state = record {
+    phase = x .ram .journal .control .phase;
+    fuse = x .ram .journal .control .fuse;
+    stored = x .ram .journal .control .stored;
+    waiting = x .ram .journal .control .waiting;
+    tables = x .tables;
+    tail = x .ram .journal .tail;
+  };
+  log = x .ram .journal .log;
+  charts = x .charts;
+  copy = x .ram .copy;
+  scopes = map structOf (x .scopes);
+}
+
+-- 01, "Power": an accepted call that closed the journal answers 5, and RAM is cleared here and nowhere else
+unfoldable pub settled : Core → ℤ → Result
+settled x v = cond (isRunning (x .ram .journal)) (result 0 v (worldIn x)) (result 5 (pos 0) (cleared (x .ram .journal .log) (x .charts)))
+
+abbrev pub decided : World → Call → ℕ → Result
+decided w k zero = let x : Core = coreOf w in let y : Core = acted x k in settled y (valueBy x y k)
+decided w k (suc n) = result (suc n) (pos 0) w
+
+-- every check, in 01's order
+unfoldable pub numberOf : World → Call → ℕ
+numberOf w k =
+    let x : Core = coreOf w in
+    (1, not (rightLengths w)) else (5, not (isOpenPhase (w .state .phase))) else (5, not (isCoherent (w .state))) else
+    refusalBy (record { tables = x .tables; scopes = x .scopes }) (rowCount (x .ram .journal)) k
+
+unfoldable pub performed : World → Call → Result
+performed w k = decided w k (numberOf w k)
+
+-- the same with the number of entries of the lent table given apart: another number than 64 is a wrong length
+abbrev pub performedAt : ℕ → World → Call → Result
+performedAt n w k = cond (eqb n scopeLimit) (performed w k) (result 1 (pos 0) w)
+
+-- ── What the functions are handed, leave and ask ──────────────────────────────────────────────────────────────────────
+
+-- the state with the four lent buffers
+abbrev pub world : State → List ℕ → List ℕ → List ℕ → List Scope → World
+world s log charts copy table = record { state = s; log = log; charts = charts; copy = copy; scopes = table }
+
+-- what the code's struct says, with the buffers beside it
+abbrev pub performedOf : Performed → List ℕ → List ℕ → List ℕ → Result
+performedOf r log charts copy = result (r .number) (r .value) (world (r .state) log charts copy (r .table))
+
+-- the state by where the journal stands, the tables and the tail
+abbrev pub stateAfter : Control → Tables → List ℕ → State
+stateAfter c t tail = record { phase = c .phase; fuse = c .fuse; stored = c .stored; waiting = c .waiting; tables = t; tail = tail }
+
+-- a call that no check refuses
+abbrev pub accepted : Core → Call → Result
+accepted x k = let y : Core = acted x k in settled y (valueBy x y k)
+
+-- the lent bytes have their lengths
+pub record Lent (log charts copy : ℕ) : Type 0 where
+  pub log-long : log ≡ logLength
+  pub charts-long : charts ≡ chartsLength
+  pub copy-long : copy ≡ chartsLength

@@ -1,0 +1,22 @@
+-- The output: its size, and text written to it.
+use mathlib.Core.Path.{_≡_}
+use mathlib.Core.List.{List, _++_}
+use Prim.Native.Nat.{ℕ, _+_}
+use lib.ListN.{length, take, drop}
+
+-- a line has at most so many bytes: sessions and calls have up to five digits, refusal numbers three, values ten and a sign
+abbrev pub lineLength : ℕ
+lineLength = 28
+
+-- room for the lines of any run file: at most 682, of one session with 681 calls
+abbrev pub outputLength : ℕ
+outputLength = 20480
+
+-- the output with this text from `at` on
+abbrev pub putAt : List ℕ → ℕ → List ℕ → List ℕ
+putAt out at text = take at out ++ text ++ drop (at + length text) out
+
+-- the text was written from `at` up to `end`, and the output is `after` then
+pub record Written (out : List ℕ) (at : ℕ) (text : List ℕ) (end : ℕ) (after : List ℕ) : Type 0 where
+  pub place : end ≡ at + length text
+  pub is : after ≡ putAt out at text

@@ -1,0 +1,14 @@
+pub mod Reversed
+pub mod Padded
+pub mod Looking
+pub mod ActiveVisits
+pub mod ScopesAfter
+pub mod Highest
+pub mod Previous
+pub mod Growing
+pub mod Undoing
+pub mod Reserve
+pub mod WithinLimits
+pub mod Step
+pub mod Judge
+pub mod Simulation

@@ -1,0 +1,54 @@
+// The tables of an open store, without the functions that keep them: the types, the definitions of what every row makes of them (`specs/`), and the
+// theorems that they say at every moment what the rows of log and tail say (`proofs/Simulation`, `proofs/Judge`). It stands apart from crate `tables`
+// so that a wrong definition is refused in seconds, with no code to be proved.
+use rows::Visit;
+
+// An active visit. Later fields move with it: the array is compacted entry by entry.
+pub struct Active {
+    pub visit: Visit,
+    pub bears: bool, // an undo row bears it
+}
+
+// The active visits stand in ascending order in the first `count` places, vacant ones after them; the first `used` scope entries are in use.
+pub struct Tables {
+    pub begun: u16, // begin rows so far
+    pub active: [Active; 16],
+    pub count: usize,
+    pub used: usize,
+}
+
+// An entry of the scope table with its numbers as they stand there, of any value.
+pub struct Entry {
+    pub maker: u16,
+    pub holder: u16,
+    pub cell: u16,
+    pub first: u16,
+    pub last: u16,
+    pub handed: bool,
+    pub count: u16,
+}
+
+// The visits that a take-back is about: abort is about one, an opening about all.
+pub enum Whom {
+    One(Visit),
+    All,
+}
+
+// An entry of the scope table, or none.
+pub enum Found {
+    At(usize),
+    Nothing,
+}
+
+// What a search for the highest open change has seen: the row, and its entry.
+pub struct Candidate {
+    pub last: u16,
+    pub at: Found,
+}
+
+// What the row rules say of a row whose bytes are well formed.
+pub enum Verdict {
+    Allowed,
+    Unlawful,
+    OverLimit,
+}
