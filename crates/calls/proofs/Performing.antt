@@ -1,44 +1,48 @@
 -- The checks of a call in their order, and what is left after it, by what the functions have found. Assumes nothing.
 use Prim.Native.Nat.{ℕ, zero, suc, _+_, _≤_}
 use mathlib.Core.Path.{_≡_, refl}
-use mathlib.Core.Bool.{Bool, true, false, cond, _&&_}
+use mathlib.Core.Bool.{Bool, true, false, cond, not, _&&_}
 use mathlib.Core.List.{List, map}
 use lib.ListN.{length}
 use lib.IntN.{ℤ, pos}
 use lib.Dec.{leb, eqb}
-use borrow.Author.Tests.{leb-true, eq-eqb}
+use borrow.Author.Tests.{leb-true, eq-eqb, not-false}
 use Rattle.book.specs.Calls.{Call}
+use Rattle.book.specs.Scopes.{Scope as Entry}
+use Rattle.book.proofs.Adds.{passes}
 use Rattle.book.proofs.Lists.{and-l, and-r}
+use Rattle.tables_model.specs.declared.Tables.{Tables}
 use Rattle.tables_model.specs.Visits.{InRange}
 use Rattle.tables_model.specs.Entries.{entries}
 use Rattle.state.specs.declared.ram.Phase.the-variants.{Open, Closed}
 use Rattle.state.specs.declared.ram.State.{State}
 use Rattle.state.specs.declared.ram.Scope.{Scope}
-use Rattle.state.specs.World.{World, rightLengths, cleared}
+use Rattle.state.specs.World.{World, rightLengths, isOpenPhase, cleared}
 use Rattle.state.specs.Contracts.{result}
+use Rattle.journal.specs.declared.Control.{Control}
 use Rattle.calls_model.specs.Acts.{Core, core, acted, valueBy, valueNow}
 use Rattle.calls_model.specs.Refusals.{refusalBy}
-use Rattle.calls_model.specs.Perform.{isCoherent, entryIn, structOf, controlIn, coreOf, worldIn, settled, decided, numberOf, performed, performedAt, world, stateAfter, accepted, Lent}
+use Rattle.calls_model.specs.Perform.{isCoherent, entryIn, structOf, controlIn, coreOf, worldIn, settled, decided, numberBy, numberOf, performed, performedAt, world, stateAfter, accepted, Lent}
 
 -- ── The counters ──────────────────────────────────────────────────────────────────────────────────────────────────────
 
-pub record Coherent (s : State) : Type 0 where
-  pub few : s .waiting ≤ 64
-  pub room : s .stored + s .waiting ≤ 4096
-  pub range : InRange (s .tables)
+pub record Coherent (c : Control) (t : Tables) : Type 0 where
+  pub few : c .waiting ≤ 64
+  pub room : c .stored + c .waiting ≤ 4096
+  pub range : InRange t
 
-pub coherent : (s : State) → isCoherent s ≡ true → Coherent s
+pub coherent : (c : Control) (t : Tables) → isCoherent c t ≡ true → Coherent c t
 unfolding isCoherent
-coherent s e =
-    let a = leb (s .waiting) 64 in
-    let b = leb (s .stored + s .waiting) 4096 in
-    let c = leb (s .tables .count) 16 in
-    let three = and-l (a && b && c) _ e in
-    let two = and-l (a && b) c three in
+coherent c t e =
+    let p = leb (c .waiting) 64 in
+    let q = leb (c .stored + c .waiting) 4096 in
+    let r = leb (t .count) 16 in
+    let three = and-l (p && q && r) _ e in
+    let two = and-l (p && q) r three in
     record {
-      few = leb-true _ _ (and-l a b two);
-      room = leb-true _ _ (and-r a b two);
-      range = record { count = leb-true _ _ (and-r (a && b) c three); used = leb-true _ _ (and-r (a && b && c) _ e) };
+      few = leb-true _ _ (and-l p q two);
+      room = leb-true _ _ (and-r p q two);
+      range = record { count = leb-true _ _ (and-r (p && q) r three); used = leb-true _ _ (and-r (p && q && r) _ e) };
     }
 
 -- ── The checks ────────────────────────────────────────────────────────────────────────────────────────────────────────
@@ -52,31 +56,42 @@ wrong-length n w k e = go (eqb n 64)
     go true = rw e
     go false = refl
 
-module _ (s : State) (log charts copy : List ℕ) (table : List Scope) (k : Call) (lent : Lent (length log) (length charts) (length copy))
-    (long : length table ≡ 64) where
-  abbrev given : World
-  given = world s log charts copy table
-
-  right : rightLengths given ≡ true
-  right = rw (eq-eqb _ _ (lent .log-long), eq-eqb _ _ (lent .charts-long), eq-eqb _ _ (lent .copy-long), eq-eqb _ _ long)
+module _ (c : Control) (t : Tables) (scopes : List Entry) (k : Call) where
+  -- the call's own checks
+  abbrev own : ℕ
+  own = refusalBy (record { tables = t; scopes = scopes }) (c .stored + c .waiting) k
 
   -- the store is closed
-  pub when-closed : s .phase ≡ Closed → result 5 (pos 0) given ≡ performed given k
-  unfolding performed numberOf
-  when-closed e = rw (right, e)
+  pub when-closed : c .phase ≡ Closed → 5 ≡ numberBy c t scopes k
+  when-closed e = rw e
 
   -- the counters are beyond their limits
-  pub when-incoherent : s .phase ≡ Open → isCoherent s ≡ false → result 5 (pos 0) given ≡ performed given k
-  unfolding performed numberOf
-  when-incoherent e h = rw (right, h, e)
+  pub when-incoherent : c .phase ≡ Open → isCoherent c t ≡ false → 5 ≡ numberBy c t scopes k
+  when-incoherent e h = rw (h, e)
 
   -- the call's own checks are left
-  pub when-coherent : s .phase ≡ Open → isCoherent s ≡ true
-      → decided given k (refusalBy (record { tables = s .tables; scopes = map entryIn table }) (s .stored + s .waiting) k) ≡ performed given k
-  unfolding performed numberOf coreOf
-  when-coherent e h = rw (right, h, e)
+  pub when-coherent : c .phase ≡ Open → isCoherent c t ≡ true → own ≡ numberBy c t scopes k
+  when-coherent e h = rw (h, e)
 
--- one of the call's own checks refuses it
+  -- none refuses
+  pub record Passed : Type 0 where
+    pub within : Coherent c t
+    pub free : own ≡ 0
+
+  pub passed : numberBy c t scopes k ≡ 0 → Passed
+  passed e =
+      let inside = isCoherent c t in
+      let p = passes (not inside) 4 own (passes (not (isOpenPhase (c .phase))) 4 _ e .1) in
+      record { within = coherent c t (not-false inside (p .0)); free = p .1 }
+
+-- the lengths are right: the number of every check is that of the others
+pub right-number : (s : State) (log charts copy : List ℕ) (table : List Scope) (k : Call) → Lent (length log) (length charts) (length copy) → length table ≡ 64
+    → numberBy (controlIn s) (s .tables) (map entryIn table) k ≡ numberOf (world s log charts copy table) k
+unfolding numberOf
+right-number s log charts copy table k lent long =
+    rw (eq-eqb _ _ (lent .log-long), eq-eqb _ _ (lent .charts-long), eq-eqb _ _ (lent .copy-long), eq-eqb _ _ long)
+
+-- a check refuses it
 pub when-refused : (w : World) (k : Call) (n m : ℕ) → n ≡ m → (n ≡ 0 → ⊥) → result n (pos 0) w ≡ decided w k m
 when-refused w k zero m e h = absurd (h refl)
 when-refused w k (suc n) m e h = rw (← e)

@@ -1,46 +1,42 @@
-// A call from its checks to what it gives back and leaves, for whatever it is handed.
+// A call from its checks to what it gives back and leaves, for whatever it is handed. `number_of` and `accept` work in place, on the tail and the flat scope
+// table; `perform` is the same for a caller that has the state and the table by value.
 ghost use mathlib.Core.Path.{_≡_};
-ghost use mathlib.Core.Bool.{true};
-ghost use mathlib.Core.List.{List, map};
-ghost use Prim.Native.Nat.{ℕ, _+_};
+ghost use mathlib.Core.List.{List};
+ghost use Prim.Native.Nat.{ℕ};
 ghost use lib.IntN.{pos};
-ghost use lib.ListN.{length, replicate};
-ghost use Rattle.book.specs.Limits.{chartsLength, scopeLimit};
-ghost use Rattle.book.specs.Scopes.{unused};
+ghost use lib.ListN.{length};
+ghost use Rattle.book.specs.Limits.{chartsLength};
+ghost use Rattle.tables_model.specs.Entries.{flatLength, entries};
 ghost use Rattle.state.specs.Contracts.{result};
-ghost use Rattle.state.specs.World.{scopeOf, closedState, cleared};
+ghost use Rattle.state.specs.World.{cleared};
 ghost use Rattle.calls_model.specs.Acts.{core, Accepts};
-ghost use Rattle.calls_model.specs.Perform.{isCoherent, entryIn, controlIn, accepted, decided, performed, performedAt, world, stateAfter, performedOf, Lent};
-ghost use Rattle.calls_model.specs.Refusals.{refusalBy};
+ghost use Rattle.calls_model.specs.Perform.{isCoherent, controlIn, numberBy, accepted, performed, performedAt, world, stateAfter, doneOf, performedOf, Lent};
 ghost use Rattle.calls_model.specs.Requests.{callOf};
-use crate::act::Acted;
 use crate::act::act;
 use crate::act::value_of;
 use crate::crossing::flat_into;
 use crate::crossing::table_from;
 use crate::refuse::refuse;
+use calls_model::Done;
 use calls_model::Performed;
 use calls_model::Request;
 use journal::Control;
 use journal::writes::clear;
-use rows::Cell;
-use rows::Lsn;
-use rows::Visit;
 use state::ram::Fuse;
 use state::ram::Phase;
 use state::ram::Scope;
 use state::ram::State;
 use tables::visits::no_tables;
+use tables_model::Tables;
 
 // The counters are within their limits.
-fn is_coherent(s: State) -> bool
-    ensures { λ r. ⌜ r ≡ isCoherent s ⌝ }
+fn is_coherent(c: Control, t: Tables) -> bool
+    ensures { λ r. ⌜ r ≡ isCoherent c t ⌝ }
 {
-    let t = s.tables;
-    if 64 < s.waiting {
+    if 64 < c.waiting {
         return false;
     }
-    if 4096 - s.waiting < s.stored {
+    if 4096 - c.waiting < c.stored {
         return false;
     }
     if 16 < t.count {
@@ -62,12 +58,87 @@ fn control_of(s: State) -> Control
     }
 }
 
-// The state after an accepted call.
-fn new_state(a: Acted, tail: [u8; 1024]) -> State
-    ensures { λ r. ⌜ r ≡ stateAfter (a .control) (a .tables) tail ⌝ }
+// Every check but that of the lengths, in document 01's order: the number that refuses the call, or 0.
+pub fn number_of(c: Control, t: Tables, flat: &[u16], request: Request) -> u8
+    requires { ⌜ length (now flat) ≡ flatLength ⌝ }
+    ensures { λ r. ⌜ r ≡ numberBy c t (entries (now (flat .entry))) (callOf request) ⌝ }
 {
-    let c = a.control;
+    let phase = c.phase;
+    match phase {
+        Phase::Closed => {
+            return 5;
+        }
+        Phase::Open => {}
+    }
+    if !is_coherent(c, t) {
+        return 5;
+    }
+    refuse(t, flat, c.stored + c.waiting, request)
+}
+
+// The power failed: RAM is cleared.
+fn cut_off(copy: &mut [u8], tail: &mut [u8], flat: &mut [u16]) -> Done
+    requires { ⌜ (length (now copy) ≡ chartsLength) × (length (now tail) ≡ 1024) × (length (now flat) ≡ flatLength) ⌝ }
+    ensures { λ r. ⌜ ((log charts : List ℕ) → doneOf r log charts (now (copy .exit)) (now (tail .exit)) (now (flat .exit)) ≡ result 5 (pos 0) (cleared log charts)) ⌝ }
+{
+    clear(copy);
+    clear(tail);
+    tables::entries::clear(flat);
+    let control = Control {
+        phase: Phase::Closed,
+        fuse: Fuse::Unlimited,
+        stored: 0,
+        waiting: 0,
+    };
+    let tables = no_tables();
+    Done {
+        number: 5,
+        value: 0,
+        control: control,
+        tables: tables,
+    }
+}
+
+// A call that no check refuses, in place: log, charts, copy, tail and the flat scope table become what the call leaves.
+pub fn accept(
+    c: Control,
+    t: Tables,
+    log: &mut [u8],
+    charts: &mut [u8],
+    copy: &mut [u8],
+    tail: &mut [u8],
+    flat: &mut [u16],
+    request: Request,
+) -> Done
+    requires { ⌜ Accepts c t (length (now log)) (length (now copy)) (length (now tail)) (now flat) (callOf request) × (length (now charts) ≡ chartsLength) ⌝ }
+    ensures { λ r. ⌜ doneOf r (now (log .exit)) (now (charts .exit)) (now (copy .exit)) (now (tail .exit)) (now (flat .exit))
+        ≡ accepted (core c t (now (log .entry)) (now (charts .entry)) (now (copy .entry)) (now (tail .entry)) (now (flat .entry))) (callOf request) ⌝ }
+{
+    let a = act(c, t, log, charts, copy, tail, flat, request);
+    let d = a.control;
+    let phase = d.phase;
+    match phase {
+        Phase::Closed => {
+            return cut_off(copy, tail, flat);
+        }
+        Phase::Open => {}
+    }
+    let value = value_of(t.begun, d, copy, request);
     let tables = a.tables;
+    Done {
+        number: 0,
+        value: value,
+        control: d,
+        tables: tables,
+    }
+}
+
+// The state after an accepted call.
+fn new_state(d: Done, tail: [u8; 1024]) -> State
+    ensures { λ r. ⌜ r ≡ stateAfter (d .control) (d .tables) tail ⌝ }
+{
+    let c = d.control;
+    let tables = d.tables;
     let phase = c.phase;
     let fuse = c.fuse;
     State {
@@ -78,36 +149,6 @@ fn new_state(a: Acted, tail: [u8; 1024]) -> State
         tables: tables,
         tail: tail,
     }
-}
-
-fn closed_state() -> State
-    ensures { λ r. ⌜ r ≡ closedState ⌝ }
-{
-    let tables = no_tables();
-    State {
-        phase: Phase::Closed,
-        fuse: Fuse::Unlimited,
-        stored: 0,
-        waiting: 0,
-        tables: tables,
-        tail: [0; 1024],
-    }
-}
-
-// Every entry is unused.
-fn no_scopes() -> [Scope; 64]
-    ensures { λ r. ⌜ r ≡ replicate scopeLimit (scopeOf unused) ⌝ }
-{
-    let none = Scope {
-        maker: Visit(0),
-        holder: Visit(0),
-        cell: Cell(0),
-        first: Lsn(0),
-        last: Lsn(0),
-        handed: false,
-        count: 0,
-    };
-    [none; 64]
 }
 
 // State and table stay as they were.
@@ -122,94 +163,8 @@ fn refused(n: u8, state: State, table: [Scope; 64]) -> Performed
     }
 }
 
-// The power failed: RAM is cleared.
-fn cut_off(copy: &mut [u8]) -> Performed
-    requires { ⌜ length (now copy) ≡ chartsLength ⌝ }
-    ensures { λ r. ⌜ ((log charts : List ℕ) → performedOf r log charts (now (copy .exit)) ≡ result 5 (pos 0) (cleared log charts)) ⌝ }
-{
-    clear(copy);
-    let state = closed_state();
-    let table = no_scopes();
-    Performed {
-        number: 5,
-        value: 0,
-        state: state,
-        table: table,
-    }
-}
-
-// A call that no check refuses.
-fn accept(
-    state: State,
-    log: &mut [u8],
-    charts: &mut [u8],
-    copy: &mut [u8],
-    flat: &mut [u16],
-    request: Request,
-) -> Performed
-    requires { ⌜ Accepts (controlIn state) (state .tables) (length (now log)) (length (now copy)) (length (state .tail)) (now flat) (callOf request)
-        × (length (now charts) ≡ chartsLength) ⌝ }
-    ensures { λ r. ⌜ performedOf r (now (log .exit)) (now (charts .exit)) (now (copy .exit))
-        ≡ accepted (core (controlIn state) (state .tables) (now (log .entry)) (now (charts .entry)) (now (copy .entry)) (state .tail) (now (flat .entry)))
-        (callOf request) ⌝ }
-{
-    let mut tail = state.tail;
-    let t = state.tables;
-    let a = act(
-        control_of(state),
-        t,
-        log,
-        charts,
-        copy,
-        &mut tail,
-        flat,
-        request,
-    );
-    let c = a.control;
-    let phase = c.phase;
-    match phase {
-        Phase::Closed => {
-            return cut_off(copy);
-        }
-        Phase::Open => {}
-    }
-    let value = value_of(t.begun, c, copy, request);
-    let next = new_state(a, tail);
-    let table = table_from(flat);
-    Performed {
-        number: 0,
-        value: value,
-        state: next,
-        table: table,
-    }
-}
-
-// The call's own checks, on a flat copy of the lent table; then the call.
+// The checks but that of the lengths, on a flat copy of the lent table; then the call.
 fn decide(
-    state: State,
-    log: &mut [u8],
-    charts: &mut [u8],
-    copy: &mut [u8],
-    table: [Scope; 64],
-    request: Request,
-) -> Performed
-    requires { ⌜ Lent (length (now log)) (length (now charts)) (length (now copy)) × (isCoherent state ≡ true) ⌝ }
-    ensures { λ r. ⌜ performedOf r (now (log .exit)) (now (charts .exit)) (now (copy .exit))
-        ≡ decided (world state (now (log .entry)) (now (charts .entry)) (now (copy .entry)) table) (callOf request)
-        (refusalBy (record { tables = state .tables; scopes = map entryIn table }) (state .stored + state .waiting) (callOf request)) ⌝ }
-{
-    let mut flat = [0u16; 448];
-    flat_into(table, &mut flat);
-    let t = state.tables;
-    let n = refuse(t, &flat, state.stored + state.waiting, request);
-    if n != 0 {
-        return refused(n, state, table);
-    }
-    accept(state, log, charts, copy, &mut flat, request)
-}
-
-// The checks of phase and counters, then the call's own.
-fn checked(
     state: State,
     log: &mut [u8],
     charts: &mut [u8],
@@ -221,17 +176,24 @@ fn checked(
     ensures { λ r. ⌜ performedOf r (now (log .exit)) (now (charts .exit)) (now (copy .exit))
         ≡ performed (world state (now (log .entry)) (now (charts .entry)) (now (copy .entry)) table) (callOf request) ⌝ }
 {
-    let phase = state.phase;
-    match phase {
-        Phase::Closed => {
-            return refused(5, state, table);
-        }
-        Phase::Open => {}
+    let mut flat = [0u16; 448];
+    flat_into(table, &mut flat);
+    let c = control_of(state);
+    let t = state.tables;
+    let n = number_of(c, t, &flat, request);
+    if n != 0 {
+        return refused(n, state, table);
     }
-    if !is_coherent(state) {
-        return refused(5, state, table);
+    let mut tail = state.tail;
+    let d = accept(c, t, log, charts, copy, &mut tail, &mut flat, request);
+    let next = new_state(d, tail);
+    let after = table_from(&flat);
+    Performed {
+        number: d.number,
+        value: d.value,
+        state: next,
+        table: after,
     }
-    decide(state, log, charts, copy, table, request)
 }
 
 // A request on the lent buffers, of which the scope table has n entries: every check in document 01's order, the lengths first.
@@ -259,5 +221,5 @@ pub fn perform(
     if n != 64 {
         return refused(1, state, table);
     }
-    checked(state, log, charts, copy, table, request)
+    decide(state, log, charts, copy, table, request)
 }

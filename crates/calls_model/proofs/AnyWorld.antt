@@ -1,10 +1,10 @@
 -- What a call promises whatever it was handed: the numbers of its table, refusals that change nothing, and what a power failure leaves.
-use Prim.Native.Nat.{ℕ, zero, suc}
+use Prim.Native.Nat.{ℕ, zero, suc, _+_}
 use native.Mathlib.Omega.{arith}
 use mathlib.Core.Path.{_≡_, refl, ap, sym, _∙_}
 use mathlib.Core.Logic.{_≢_, _⊎_, inl, inr}
 use mathlib.Core.Bool.{Bool, true, false, cond, not, _||_}
-use mathlib.Core.List.{List}
+use mathlib.Core.List.{List, map}
 use lib.IntN.{ℤ, pos}
 use lib.Dec.{eqb, leb, ltb}
 use Rattle.book.specs.Lists.{member}
@@ -12,6 +12,7 @@ use Rattle.book.specs.Limits.{visitLimit, activeLimit, scopeLimit, pageLimit}
 use Rattle.book.specs.Rows.{isCell}
 use Rattle.book.specs.Calls.{Call}
 use Rattle.book.proofs.Lists.{clash}
+use Rattle.tables_model.specs.declared.Tables.{Tables}
 use Rattle.tables_model.specs.Visits.{isListed}
 use Rattle.tables_model.specs.Rows.{Index, roomBy, growsBy, holdsBy}
 use Rattle.state.specs.declared.ram.Phase.{Phase}
@@ -22,10 +23,10 @@ use Rattle.state.specs.World.{World, rightLengths, isOpenPhase, cleared}
 use Rattle.state.specs.Contracts.{Result, result, numbers}
 use Rattle.journal.specs.declared.Control.{Control}
 use Rattle.journal.specs.Journal.{paged}
-use Rattle.undo.specs.Writing.{rowCount, isRunning}
+use Rattle.undo.specs.Writing.{isRunning}
 use Rattle.calls_model.specs.Refusals.{refusalBy}
 use Rattle.calls_model.specs.Acts.{Core, acted}
-use Rattle.calls_model.specs.Perform.{coreOf, worldIn, settled, decided, isCoherent, numberOf, performed}
+use Rattle.calls_model.specs.Perform.{entryIn, controlIn, coreOf, worldIn, settled, decided, isCoherent, numberOf, performed}
 
 -- ── The numbers ───────────────────────────────────────────────────────────────────────────────────────────────────────
 
@@ -123,9 +124,10 @@ module _ (w : World) (k : Call) where
   number-in : Among k (numberOf w k)
   unfolding numberOf
   number-in =
-      let x : Core = coreOf w in
-      check (not (rightLengths w)) (always k .1) (check (not (isOpenPhase (w .state .phase))) (always k .2) (check (not (isCoherent (w .state))) (always k .2)
-      (refusal-in (record { tables = x .tables; scopes = x .scopes }) (rowCount (x .ram .journal)) k)))
+      let c : Control = controlIn (w .state) in
+      let t : Tables = w .state .tables in
+      check (not (rightLengths w)) (always k .1) (check (not (isOpenPhase (c .phase))) (always k .2) (check (not (isCoherent c t)) (always k .2)
+      (refusal-in (record { tables = t; scopes = map entryIn (w .scopes) }) (c .stored + c .waiting) k)))
 
   ends : Ends w k (performed w k)
   unfolding performed coreOf

@@ -27,7 +27,7 @@ use Rattle.undo.proofs.Steady.{steady-sound}
 use Rattle.undo.proofs.RowsLookedUp.{count-rows}
 use Rattle.calls_model.specs.Refusals.{refusalBy}
 use Rattle.calls_model.specs.Acts.{Core, acted, valueBy}
-use Rattle.calls_model.specs.Perform.{isCoherent, coreOf, settled, decided, numberOf, performed}
+use Rattle.calls_model.specs.Perform.{isCoherent, controlIn, coreOf, settled, decided, numberOf, performed}
 use Rattle.calls_model.proofs.Refusing.{refusal-by}
 use Rattle.calls_model.proofs.Cores.{coreFor, core-of, settled-is}
 use Rattle.calls_model.proofs.AnyWorld.{closed-store}
@@ -54,11 +54,11 @@ phase-is b = go (b .stored) (b .waiting) (b .fuse) (b .isOpen)
     go s w f false = refl
 
 -- the counters of an open book are within their limits
-coherent : (b : Book) → Sound b → b .isOpen ≡ true → isCoherent (stateOf b) ≡ true
+coherent : (b : Book) → Sound b → b .isOpen ≡ true → isCoherent (controlIn (stateOf b)) (stateOf b .tables) ≡ true
 unfolding stateOf isCoherent
 coherent b s o = go (b .isOpen) o
   where
-    go : (t : Bool) → t ≡ true → isCoherent (cond t (openState b) closedState) ≡ true
+    go : (t : Bool) → t ≡ true → let x = cond t (openState b) closedState in isCoherent (controlIn x) (x .tables) ≡ true
     go true e =
         let r = in-range (rowsOf b) (s .allowed) in
         let few = few-rows (rowsOf b) (s .allowed) in
@@ -75,7 +75,7 @@ module _ (cells : ℕ → ℤ) (b : Book) (charts : List ℕ) (k : Call) (range 
 
   module _ (o : b .isOpen ≡ true) where
     number-is : numberOf (worldOf cells b charts) k ≡ refusal b k
-    unfolding numberOf worldOf
+    unfolding numberOf worldOf coreOf
     number-is =
         let checks : refusalBy (record { tables = coreOf (worldOf cells b charts) .tables; scopes = coreOf (worldOf cells b charts) .scopes })
         (rowCount (coreOf (worldOf cells b charts) .ram .journal)) k ≡ refusal b k =

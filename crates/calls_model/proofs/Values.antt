@@ -26,7 +26,7 @@ use Rattle.undo.proofs.Counters.{Counters, counters-written, counters-fallAll}
 use Rattle.undo.proofs.CountersForced.{counters-forced}
 use Rattle.calls_model.specs.Refusals.{refusalBy}
 use Rattle.calls_model.specs.Acts.{Core, fell, acted, valueBy}
-use Rattle.calls_model.specs.Perform.{isCoherent, coreOf, worldIn, settled, decided, numberOf, performed}
+use Rattle.calls_model.specs.Perform.{isCoherent, controlIn, coreOf, worldIn, settled, decided, numberOf, performed}
 
 -- a natural number of at most this limit
 pub record UpTo (limit : ℕ) (value : ℤ) : Type 0 where
@@ -79,8 +79,9 @@ module _ (w : World) (k : Call) where
   value-passed e =
       let a = passes (not (rightLengths w)) 0 _ e .1 in
       let b = passes (not (isOpenPhase (w .state .phase))) 4 _ a .1 in
-      let c = passes (not (isCoherent (w .state))) 4 _ b in
-      let ok : isCoherent (w .state) ≡ true = not-false (isCoherent (w .state)) (c .0) in
+      let within = isCoherent (controlIn (w .state)) (w .state .tables) in
+      let c = passes (not within) 4 _ b in
+      let ok : within ≡ true = not-false within (c .0) in
       let few : leb (w .state .waiting) tailLimit ≡ true = search (and-l, and-r) in
       let rows : leb (w .state .stored + w .state .waiting) rowLimit ≡ true = search (and-l, and-r) in
       let counters : Counters (coreOf w .ram .journal .control) = record {

@@ -10,20 +10,21 @@ use Rattle.book.specs.Scopes.{Scope as Entry}
 use Rattle.book.specs.Calls.{Call}
 use Rattle.book.specs.Book.{_else_}
 use Rattle.tables_model.specs.declared.Tables.{Tables}
+use Rattle.tables_model.specs.Entries.{entries}
 use Rattle.state.specs.declared.ram.State.{State}
 use Rattle.state.specs.declared.ram.Scope.{Scope}
 use Rattle.state.specs.World.{World, rightLengths, isOpenPhase, scopeOf, cleared}
 use Rattle.state.specs.Contracts.{Result, result}
 use Rattle.journal.specs.declared.Control.{Control}
-use Rattle.undo.specs.Writing.{rowCount, isRunning}
+use Rattle.undo.specs.Writing.{isRunning}
 use Rattle.calls_model.specs.declared.Performed.{Performed}
+use Rattle.calls_model.specs.declared.Done.{Done}
 use Rattle.calls_model.specs.Refusals.{refusalBy}
 use Rattle.calls_model.specs.Acts.{Core, acted, valueBy}
 
 -- the counters are within their limits: what a state of the host's making may break
-unfoldable pub isCoherent : State → Bool
-isCoherent s =
-    leb (s .waiting) tailLimit && leb (s .stored + s .waiting) rowLimit && leb (s .tables .count) activeLimit && leb (s .tables .used) scopeLimit
+unfoldable pub isCoherent : Control → Tables → Bool
+isCoherent c t = leb (c .waiting) tailLimit && leb (c .stored + c .waiting) rowLimit && leb (t .count) activeLimit && leb (t .used) scopeLimit
 
 -- an entry of the lent table
 abbrev pub entryIn : Scope → Entry
@@ -86,12 +87,14 @@ abbrev pub decided : World → Call → ℕ → Result
 decided w k zero = let x : Core = coreOf w in let y : Core = acted x k in settled y (valueBy x y k)
 decided w k (suc n) = result (suc n) (pos 0) w
 
--- every check, in 01's order
+-- every check but that of the lengths, in 01's order
+abbrev pub numberBy : Control → Tables → List Entry → Call → ℕ
+numberBy c t scopes k =
+    (5, not (isOpenPhase (c .phase))) else (5, not (isCoherent c t)) else refusalBy (record { tables = t; scopes = scopes }) (c .stored + c .waiting) k
+
+-- every check
 unfoldable pub numberOf : World → Call → ℕ
-numberOf w k =
-    let x : Core = coreOf w in
-    (1, not (rightLengths w)) else (5, not (isOpenPhase (w .state .phase))) else (5, not (isCoherent (w .state))) else
-    refusalBy (record { tables = x .tables; scopes = x .scopes }) (rowCount (x .ram .journal)) k
+numberOf w k = (1, not (rightLengths w)) else numberBy (controlIn (w .state)) (w .state .tables) (map entryIn (w .scopes)) k
 
 unfoldable pub performed : World → Call → Result
 performed w k = decided w k (numberOf w k)
@@ -113,6 +116,11 @@ performedOf r log charts copy = result (r .number) (r .value) (world (r .state) 
 -- the state by where the journal stands, the tables and the tail
 abbrev pub stateAfter : Control → Tables → List ℕ → State
 stateAfter c t tail = record { phase = c .phase; fuse = c .fuse; stored = c .stored; waiting = c .waiting; tables = t; tail = tail }
+
+-- the same of a call that works in place, with the tail and the flat table beside it
+abbrev pub doneOf : Done → List ℕ → List ℕ → List ℕ → List ℕ → List ℕ → Result
+doneOf r log charts copy tail flat =
+    result (r .number) (r .value) (world (stateAfter (r .control) (r .tables) tail) log charts copy (map structOf (entries flat)))
 
 -- a call that no check refuses
 abbrev pub accepted : Core → Call → Result

@@ -1,23 +1,32 @@
 -- `calls::perform::decide` meets its contract. Assumes nothing.
-use Prim.Native.Nat.{_+_}
 use mathlib.Core.Path.{_≡_, sym, _∙_}
-use mathlib.Core.List.{map}
-use native.Mathlib.Omega.{arith}
-use Rattle.calls_model.specs.Perform.{entryIn, world}
-use Rattle.calls_model.specs.Refusals.{refusalBy}
+use mir.Syntax.{w32}
+use mir.Facts.{toZ-ofZ}
+use lib.ListN.{length}
+use Rattle.tables_model.specs.Entries.{entries}
+use Rattle.state.specs.World.{World}
+use Rattle.calls_model.specs.Perform.{numberOf, performed, world}
 use Rattle.calls_model.specs.Requests.{callOf}
-use Rattle.calls.proofs.Performing.{Coherent, coherent, when-refused, when-accepted}
+use Rattle.calls.proofs.Performing.{Passed, passed, right-number, when-refused, when-accepted}
 use borrow.Author.Needs.{needs}
 use Rattle.calls.proofs.perform.decide.Statement.{statement}
 use Rattle.calls.proofs.perform.decide.Tie as tie
 
-within : (s : tie.Start) → Coherent (s .args .state)
-within s = coherent (s .args .state) (s .pre .1)
+-- what the call is handed
+abbrev given : tie.Start → World
+given s = let x = s .args in world (x .state) (x .log .now) (x .charts .now) (x .copy .now) (x .table)
 
--- the call's own checks, by the lent table
-numbered : (c : tie.After-refuse) → let x = c .before .before .before .before .before .before .before .before .before .before .args in
-    c .refuse .result ≡ refusalBy (record { tables = x .state .tables; scopes = map entryIn (x .table) }) (x .state .stored + x .state .waiting) (callOf (x .request))
-numbered c = rw (c .before .before .before .before .before .flat-into .ensures) at (c .refuse .ensures)
+-- the array has 64 places
+long : (s : tie.Start) → length (s .args .table) ≡ 64
+long s = search needs
+
+-- the number is that of every check
+numbered : (c : tie.After-number-of) → let s = c .before .before .before .before .before .before .before .before .before .before in c .number-of .result ≡ numberOf (given s) (callOf (s .args .request))
+numbered c =
+    let s = c .before .before .before .before .before .before .before .before .before .before in
+    let x = s .args in
+    rw (c .before .before .before .control-of .ensures, c .before .before .before .before .before .flat-into .ensures) at (c .number-of .ensures) ∙
+    right-number (x .state) (x .log .now) (x .charts .now) (x .copy .now) (x .table) (callOf (x .request)) (s .pre) (long s)
 
 slice-aggregate-flat-into : tie.Need-slice-aggregate-flat-into
 slice-aggregate-flat-into c = search needs
@@ -25,41 +34,56 @@ slice-aggregate-flat-into c = search needs
 flat-into-requires : tie.Need-flat-into-requires
 flat-into-requires c κs = search needs
 
-slice-aggregate-refuse : tie.Need-slice-aggregate-refuse
-slice-aggregate-refuse c = search needs
+control-of-requires : tie.Need-control-of-requires
+control-of-requires c κs = search needs
 
-add-refuse : tie.Need-add-refuse
-add-refuse c = omega (arith, within (c .before .before .before .before .before .before .before .before .before) .room)
+slice-aggregate-number-of : tie.Need-slice-aggregate-number-of
+slice-aggregate-number-of c = search needs
 
-refuse-requires : tie.Need-refuse-requires
-refuse-requires c κs = record { range = within (c .before .before .before .before .before .before .before .before .before) .range; long = c .before .before .before .before .flat-into .kept .1 .0 }
+number-of-requires : tie.Need-number-of-requires
+number-of-requires c κs = search needs
 
 refused-requires : tie.Need-refused-requires
 refused-requires c κs = search needs
 
 returns : tie.Need-returns
+unfolding performed
 returns c =
-    let x = c .before .before .before .before .before .before .before .before .before .before .before .before .args in
-    c .refused .ensures _ _ _ ∙
-    when-refused (world (x .state) (x .log .now) (x .charts .now) (x .copy .now) (x .table)) (callOf (x .request)) (c .before .before .refuse .result) _ (numbered (c .before .before)) (c .before .if1 .taken)
+    let s = c .before .before .before .before .before .before .before .before .before .before .before .before in
+    c .refused .ensures _ _ _ ∙ when-refused (given s) (callOf (s .args .request)) (c .before .before .number-of .result) _ (numbered (c .before .before)) (c .before .if1 .taken)
 
 slice-aggregate-accept : tie.Need-slice-aggregate-accept
 slice-aggregate-accept c = search needs
 
+slice-aggregate-accept-2 : tie.Need-slice-aggregate-accept-2
+slice-aggregate-accept-2 c = search needs
+
 accept-requires : tie.Need-accept-requires
 accept-requires c κs =
-    let s = c .before .before .before .before .before .before .before .before .before .before .before .before .before .before .before in
-    let w = within s in (
+    let s = c .before .before .before .before .before .before .before .before .before .before .before .before .before .before .before .before .before in
+    let x = s .args in
+    let flat = c .before .before .before .before .before .before .before .before .before .before .before .before .flat-into in
+    let p = passed (c .before .before .before .before .before .before .before .before .before .before .control-of .result) (x .state .tables) (entries (flat .last .1 .0)) (callOf (x .request))
+    (sym (c .before .before .before .before .before .before .before .number-of .ensures) ∙ c .before .before .before .before .before .before .if1 .left) in (
       record {
         fits = record {
-          sizes = record { log-long = s .pre .0 .log-long; tail-long = search needs; few = w .few; room = w .room };
-          copy-long = s .pre .0 .copy-long;
+          sizes = record { log-long = s .pre .log-long; tail-long = search needs; few = p .within .few; room = p .within .room };
+          copy-long = s .pre .copy-long;
         };
-        ready = record { range = w .range; long = c .before .before .before .before .before .before .before .before .before .before .flat-into .kept .1 .0 };
-        free = sym (c .before .before .before .before .before .refuse .ensures) ∙ c .before .before .before .before .if1 .left;
+        ready = record { range = p .within .range; long = flat .kept .1 .0 };
+        free = p .free;
       },
-      s .pre .0 .charts-long,
+      s .pre .charts-long,
     )
+
+new-state-requires : tie.Need-new-state-requires
+new-state-requires c κs = search needs
+
+slice-aggregate-table-from : tie.Need-slice-aggregate-table-from
+slice-aggregate-table-from c = search needs
+
+table-from-requires : tie.Need-table-from-requires
+table-from-requires c κs = search needs
 
 same-length : tie.Need-same-length
 same-length c = search needs
@@ -71,11 +95,15 @@ same-length-3 : tie.Need-same-length-3
 same-length-3 c = search needs
 
 returns-2 : tie.Need-returns-2
+unfolding performed
 returns-2 c =
-    let x = c .before .before .before .before .before .before .before .before .before .before .before .before .before .before .before .before .before .before .before .before .before .before .before .args in
-    c .before .before .before .before .before .before .before .accept .ensures ∙
-    when-accepted (x .state) (x .log .now) (x .charts .now) (x .copy .now) (x .table) _ (callOf (x .request)) _ (c .before .before .before .before .before .before .before .before .before .before .before .before .before .before .before .before .before .before .flat-into .ensures)
-    (sym (numbered (c .before .before .before .before .before .before .before .before .before .before .before .before .before)) ∙ c .before .before .before .before .before .before .before .before .before .before .before .before .if1 .left)
+    let s = c .before .before .before .before .before .before .before .before .before .before .before .before .before .before .before .before .before .before .before .before .before .before .before .before .before .before .before .before .before .before in
+    let x = s .args in
+    let a = c .before .before .before .before .before .before .before .before .before .before .before .before .accept in
+    rw (toZ-ofZ {w = w32} {z = a .result .value} (search needs), c .before .before .before .new-state .ensures, c .before .table-from .ensures)
+    (rw (c .before .before .before .before .before .before .before .before .before .before .before .before .before .before .before .before .before .before .before .before .before .before .before .control-of .ensures) at (a .ensures) ∙
+    when-accepted (x .state) (x .log .now) (x .charts .now) (x .copy .now) (x .table) _ (callOf (x .request)) _ (c .before .before .before .before .before .before .before .before .before .before .before .before .before .before .before .before .before .before .before .before .before .before .before .before .before .flat-into .ensures)
+    (sym (numbered (c .before .before .before .before .before .before .before .before .before .before .before .before .before .before .before .before .before .before .before .before)) ∙ c .before .before .before .before .before .before .before .before .before .before .before .before .before .before .before .before .before .before .before .if1 .left))
 
 pub decide-spec : {M : Type 1} → statement M
 decide-spec =
@@ -83,13 +111,17 @@ decide-spec =
     (tie.spec
     slice-aggregate-flat-into
     flat-into-requires
-    slice-aggregate-refuse
-    add-refuse
-    refuse-requires
+    control-of-requires
+    slice-aggregate-number-of
+    number-of-requires
     refused-requires
     returns
     slice-aggregate-accept
+    slice-aggregate-accept-2
     accept-requires
+    new-state-requires
+    slice-aggregate-table-from
+    table-from-requires
     same-length
     same-length-2
     same-length-3

@@ -9,26 +9,28 @@ use Rattle.calls.proofs.perform.is_coherent.Tie as tie
 
 returns : tie.Need-returns
 unfolding isCoherent
-returns c = let s = c .before .before .before .args .s in rw (lt-leb (s .waiting) 64 (omega arith))
+returns c = let x = c .before .before .args in rw (lt-leb (x .c .waiting) 64 (omega arith))
 
 sub-if2 : tie.Need-sub-if2
 sub-if2 c = search needs
 
 returns-2 : tie.Need-returns-2
 unfolding isCoherent
-returns-2 c = let s = c .before .before .before .before .before .before .args .s in rw (le-leb (s .waiting) 64 (omega arith), lt-leb (s .stored + s .waiting) 4096 (omega arith))
+returns-2 c =
+    let x = c .before .before .before .before .before .args .c in
+    rw (le-leb (x .waiting) 64 (omega arith), lt-leb (x .stored + x .waiting) 4096 (omega arith))
 
 returns-3 : tie.Need-returns-3
 unfolding isCoherent
 returns-3 c =
-    let s = c .before .before .before .before .before .before .before .before .args .s in
-    rw (le-leb (s .waiting) 64 (omega arith), le-leb (s .stored + s .waiting) 4096 (omega arith), lt-leb (s .tables .count) 16 (omega arith))
+    let x = c .before .before .before .before .before .before .before .args in
+    rw (le-leb (x .c .waiting) 64 (omega arith), le-leb (x .c .stored + x .c .waiting) 4096 (omega arith), lt-leb (x .t .count) 16 (omega arith))
 
 returns-4 : tie.Need-returns-4
 unfolding isCoherent
 returns-4 c =
-    let s = c .before .before .before .before .before .before .before .before .before .args .s in
-    rw (le-leb (s .waiting) 64 (omega arith), le-leb (s .stored + s .waiting) 4096 (omega arith), le-leb (s .tables .count) 16 (omega arith))
+    let x = c .before .before .before .before .before .before .before .before .args in
+    rw (le-leb (x .c .waiting) 64 (omega arith), le-leb (x .c .stored + x .c .waiting) 4096 (omega arith), le-leb (x .t .count) 16 (omega arith))
 
 pub is-coherent-spec : {M : Type 1} → statement M
 is-coherent-spec = tie.close (tie.spec returns sub-if2 returns-2 returns-3 returns-4)

@@ -54,8 +54,8 @@ refused-requires-4 c κs = search needs
 returns-4 : tie.Need-returns-4
 returns-4 c = c .refused4 .ensures _ _ _ ∙ rw (ne-eqb (c .before .before .before .before .before .before .before .before .args .n) 64 (c .before .if4 .taken))
 
-checked-requires : tie.Need-checked-requires
-checked-requires c κs = search needs
+decide-requires : tie.Need-decide-requires
+decide-requires c κs = search needs
 
 same-length : tie.Need-same-length
 same-length c = search needs
@@ -67,7 +67,7 @@ same-length-3 : tie.Need-same-length-3
 same-length-3 c = search needs
 
 returns-5 : tie.Need-returns-5
-returns-5 c = c .before .before .before .before .before .before .checked .ensures ∙ rw (eq-eqb (c .before .before .before .before .before .before .before .before .before .before .before .before .before .before .before .before .before .args .n) 64 (c .before .before .before .before .before .before .before .before .before .before .if4 .left))
+returns-5 c = c .before .before .before .before .before .before .decide .ensures ∙ rw (eq-eqb (c .before .before .before .before .before .before .before .before .before .before .before .before .before .before .before .before .before .args .n) 64 (c .before .before .before .before .before .before .before .before .before .before .if4 .left))
 
 pub perform-spec : {M : Type 1} → statement M
 perform-spec =
@@ -81,7 +81,7 @@ perform-spec =
     returns-3
     refused-requires-4
     returns-4
-    checked-requires
+    decide-requires
     same-length
     same-length-2
     same-length-3
