@@ -1,6 +1,4 @@
-//! The two implementations as `Store`s. A further one, such as a static library with C functions over
-//! byte buffers, is written like `FastStore`: a `Host` for the buffers, and the state that the
-//! functions pass around.
+//! The two implementations as `Store`s.
 
 use crate::fast::{self, Fuse, Lent, Phase, Ram};
 use crate::paper::{self, Paper, Row};

@@ -1,9 +1,12 @@
 //! The proved store: the functions of `include/chart_store.h`, from the archive that `rt staticlib embed`
-//! writes, and the block of RAM that they work on.
+//! writes, and the block of RAM that they work on; and the proved program `relog`, which `rt check relog`
+//! builds.
 
 use crate::prng::Rng;
 use crate::store::{noise, Answer, Buffer, Call, Lengths, Scope, Store, RIGHT};
 use crate::store::{take_over, with_length};
+use std::io::Write;
+use std::process::{Command, Stdio};
 
 /// The block, as the header gives it: state, scope table, copy.
 pub const RAM_LENGTH: usize = 2_904;
@@ -246,4 +249,18 @@ impl Store for ProvedStore {
             self.store.ram[0] = 1;
         }
     }
+}
+
+/// What the proved program writes for a run file.
+pub fn relog(file: &[u8]) -> String {
+    let program = concat!(env!("CARGO_MANIFEST_DIR"), "/../target/bin/relog");
+    let mut child = Command::new(program)
+        .stdin(Stdio::piped())
+        .stdout(Stdio::piped())
+        .spawn()
+        .unwrap_or_else(|error| panic!("{program}: {error}"));
+    // A program that stops reading early shows in what it writes.
+    let _ = child.stdin.take().map(|mut stdin| stdin.write_all(file));
+    let output = child.wait_with_output().expect("the program's output");
+    String::from_utf8_lossy(&output.stdout).into_owned()
 }

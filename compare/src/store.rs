@@ -1,8 +1,7 @@
 //! What the comparison asks of an implementation of the chart store.
 //!
 //! An implementation takes part by the trait `Store`: it owns the buffers that a host would lend to
-//! each call (log, charts, copy, scope table) and its state in RAM. `Host` does the lending for
-//! implementations that are functions over byte buffers, such as a static library with C functions.
+//! each call (log, charts, copy, scope table) and its state in RAM. `Host` does the lending.
 
 use crate::prng::Rng;
 

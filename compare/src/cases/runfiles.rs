@@ -1,11 +1,12 @@
-//! Run files: random sessions written as run files and run by every store, and run files that are
-//! altered a little, of which most have to give the line `15`.
+//! Run files: random sessions written as run files and run by every store and by the proved program
+//! `relog`, and run files that are altered a little, of which most have to give the line `15`.
 
 use super::sessions::{fuse, habits, next_call};
 use crate::arena::{Arena, Outcome};
 use crate::bench::{Bench, Failure};
 use crate::paper::Paper;
 use crate::prng::Rng;
+use crate::proved::relog;
 use crate::runfile::{parse, run, write, Session};
 use crate::steps::Step;
 use crate::store::{Call, CELLS};
@@ -17,12 +18,12 @@ pub fn play(bench: &mut Bench, seed: u64) -> Result<(), Failure> {
         let mut file = write(&sessions(rng, arena)?);
         for _ in 0..4 {
             let expected = run(&file, &mut Paper::new());
-            for make in &makers {
-                let lines = run(&file, make().as_mut());
-                if lines != expected {
-                    return arena
-                        .differs(format!("the run file {file:?} gives\n{expected}and not\n{lines}"));
-                }
+            let mut outputs: Vec<String> =
+                makers.iter().map(|make| run(&file, make().as_mut())).collect();
+            outputs.push(relog(&file));
+            if let Some(lines) = outputs.iter().find(|lines| **lines != expected) {
+                return arena
+                    .differs(format!("the run file {file:?} gives\n{expected}and not\n{lines}"));
             }
             let label = if parse(&file).is_some() { "run" } else { "15" };
             arena.cover().answer("run file", label);
