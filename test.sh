@@ -1,5 +1,5 @@
 #!/usr/bin/env bash
-# All tests: the layout of the files, every proof with the must-fail edits and the programs, and the comparison with the other implementation.
+# All tests: the layout of the files, every proof with the must-fail edits and the programs, the comparison with the other implementations, and the example in C.
 # The last line is the prover's own count; the exit status is not 0 when anything failed.
 set -uo pipefail
 cd "$(dirname "$0")" || exit 1
@@ -11,9 +11,11 @@ count=$(mktemp)
 trap 'rm -f "$count"' EXIT
 rt ci 2>&1 | tee "$count" || failed=1
 
-if [ -f compare/Cargo.toml ]; then
-    (cd compare && cargo test --release --offline --quiet && cargo run --release --offline --quiet) || failed=1
-fi
+# The archive that the comparison, the benchmark and the example in C link.
+rt staticlib embed || failed=1
+(cd compare && cargo test --release --offline --quiet && cargo run --release --offline --quiet) || failed=1
+(cd bench && cargo build --release --offline --quiet) || failed=1
+examples/c/run.sh || failed=1
 
 tail -n 1 "$count"
 exit "$failed"
