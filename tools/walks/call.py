@@ -15,16 +15,14 @@ ARGS=rest[2] if len(rest)>2 else N+'Args'
 RES=rest[3] if len(rest)>3 else N+'Result'
 POST=rest[4] if len(rest)>4 else N+'Post'
 clear=kind!='table'; cells=kind=='cells'
-# what a core gives back that has no use for the table: the struct is BeginCut, and its field that says whether the table is to be cleared
-CUT,CUT_FIELD='Cut','cut'
 d=n.replace('_','-')
 def path(m):                                # cores.outs -> Rattle.cores.proofs.outs
     c,*r=m.split('.')
     return f'Rattle.{c}.proofs'+''.join('.'+x for x in r)
 def dots(m): return m.replace('.','·')      # in the names of code.calls-…
 st="struct {0}.the-type {0}′.the-laws {0}′.the-plain {0}′.the-copy".format
-part='clears' if clear else 'table'     # as in the records of Promised
-field=CUT_FIELD if clear else 'table'
+# what a core gives back besides the result: the table, or whether the table is to be cleared; so named in its struct (BeginOut, BeginClears) and in the records of Promised
+part='clears' if clear else 'table'
 p='use Rattle.store.proofs.'
 def write(f,t):
     os.makedirs(os.path.dirname(f),exist_ok=True)
@@ -32,9 +30,9 @@ def write(f,t):
 u=["use mathlib.Core.Path.{refl}"]
 if cells: u+=["use mathlib.Core.List.{List}","use lib.IntN.{ℤ}"]
 u+=[f"use {path(CORE)}.{n}_core.Symbol.{{name as core-name}}"]
-if clear: u+=[f"use {path(OUTS)}.{N}{CUT} as C",f"use {path(OUTS)}.{N}{CUT}.Laws as C′"]
+if clear: u+=[f"use {path(OUTS)}.{N}Clears as C",f"use {path(OUTS)}.{N}Clears.Laws as C′"]
 u+=[f"use {path(OUTS)}.{N}Out as O",f"use {path(OUTS)}.{N}Out.Laws as O′"]
-if clear: u+=[f"use {path(OUTS)}.{CUT_FIELD}_of_{n}.Symbol.{{name as clears-name}}"]
+if clear: u+=[f"use {path(OUTS)}.clears_of_{n}.Symbol.{{name as clears-name}}"]
 u+=[f"use {path(OUTS)}.out_of_{n}.Symbol.{{name as out-name}}",f"use {path(OUTS)}.result_of_{n}.Symbol.{{name as result-name}}"]
 if not clear: u+=[f"use {path(OUTS)}.table_of_{n}.Symbol.{{name as table-name}}"]
 u+=[f"use Rattle.cores.specs.Posts.{{{POST}}}",f"use Rattle.state.proofs.answers.{RES} as Y",f"use Rattle.state.proofs.answers.{RES}.Laws as Y′"]
@@ -55,7 +53,7 @@ call = promise ({st('Y')}) (λ r. r .state) {post}
 '''
 if clear: t+=f'''
 abbrev pub core : OnLength call
-core = on-length (call .result) (λ r. r .state) {post} ({st('C')}) (λ o. o .result) (λ o. o .{CUT_FIELD}) core-name result-name clears-name
+core = on-length (call .result) (λ r. r .state) {post} ({st('C')}) (λ o. o .result) (λ o. o .clears) core-name result-name clears-name
 '''
 else: t+=f'''
 abbrev pub core : OnTable call
@@ -82,7 +80,7 @@ S='bool' if clear else 'Tb'; last='clear' if clear else 'store'; L=last.capitali
 u=["use contract.Running.{givenOf, tables, tablesOf}"]
 if clear: u.append("use denote.Builtin.{bool}")
 u+=["use denote.Triple.Spec.{tripleOf}","use denote.Triple.Table.{entered, cited}"]
-q=[(f'{path(CORE)}.{n}_core','core'),(f'{path(OUTS)}.{field}_of_{n}',part),(f'{path(OUTS)}.result_of_{n}','result')]
+q=[(f'{path(CORE)}.{n}_core','core'),(f'{path(OUTS)}.{part}_of_{n}',part),(f'{path(OUTS)}.result_of_{n}','result')]
 for m,a in q: u+=[f"use {m}.Met as {a}-met",f"use {m}.Symbol as {a}-def"]
 u+=[p+f"Callees.{{{'' if clear else 'Load, '}{L}}}"]
 if not clear: u+=[p+"Elem.{Tb}"]
@@ -93,7 +91,7 @@ for m,a in q: u+=[p+f"{m}.Met as {a}-met",p+f"{m}.Symbol as {a}-def"]
 def cite(con,a,code): return f"    (cited 𝓤 H ({con}) 𝓜 𝓡 code.env {a}-def.name {a}-def.routine code.calls-{code} ({a}-met.met 𝓤 H 𝓜 𝓖 𝓡))"
 cs=[] if clear else [cite("Load 𝓤 H (𝓖 .A) (𝓜 .mem) (𝓡 .run)",'load','store·table·load')]
 cs+=[cite(f"Core {X}call core 𝓤 H (𝓖 .A)",'core',f'{dots(CORE)}·{d}-core'),
-     cite(f"Part (core .out) {S} (core .{part}-of) 𝓤 H (𝓖 .A)",part,f'{dots(OUTS)}·{field}-of-{d}'),
+     cite(f"Part (core .out) {S} (core .{part}-of) 𝓤 H (𝓖 .A)",part,f'{dots(OUTS)}·{part}-of-{d}'),
      cite(f"{L} 𝓤 H (𝓖 .A) (𝓜 .mem) (𝓡 .run)",last,f'store·table·{last}'),
      cite("Part (core .out) (call .result .row) (core .result-of) 𝓤 H (𝓖 .A)",'result',f'{dots(OUTS)}·result-of-{d}')]
 enter=f"    entered 𝓤 H (tripleOf 𝓤 H (𝓖 .A) this.signature (this.spec 𝓤 H (𝓖 .A) (𝓜 .mem) (𝓡 .run))) (tables 𝓤 H 𝓜 𝓡 code.env .C) (tables 𝓤 H 𝓜 𝓡 code.env .Λ) key code.function (code.unfolded 𝓤 H 𝓜 𝓡)"

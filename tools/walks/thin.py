@@ -122,7 +122,7 @@ def make(clear,cells):
     goes_arg='' if clear else ' (t-known r₃ (d .table-of r₂) w₃ e₃ is₃)'
     w(f"move ! ({B+2} ∷ {B+1} ∷ []) $ use2 W (raw ({C} 𝓤 H A mem run .pre (to-{lo} r₂))) (goes-{lo} r₂{goes_arg}) $")
     w(f"calls-at ! (fmOf 𝓤 H (W .laws) 𝓣) ({C} 𝓤 H A mem run) known-{lo} (to-{lo} r₂) {ops([P(U+2,B+2),P(PT,B+2)])} (λ w₄."); par+=1
-    after=f'cleared ys (d .clears-of r₂)' if clear else f'stored ys (d .table-of r₂)'
+    after=f'tableLeft ys (d .clears-of r₂)' if clear else f'stored ys (d .table-of r₂)'
     w(f"use1 W (later (some (λ (r : Unit {{0}}). ((‵ (flft κ₃ q₃) ⊛ ‵ ftrue) ⊛ ‵ (Nothing .own r (w₄ ∷ []))) ⊛ raw (ensured 𝓤 H A {cl}.ended ({cl}.clauses 𝓤 H A mem run) (κ₃, tt) (ss, ({g} r₂, tt)) tt r)))) (id⊢ 𝓤 _) $ await ! tt $ pick ! (λ r₄."); par+=1
     w(f"split ! $ move ! (1 ∷ []) $ use1 W (some (λ (us : List Scope × (Unit {{0}} × Unit {{0}})). ‵ (lasts {cl}.ended (κ₃, tt) (ss, ({g} r₂, tt)) us) ⊛ raw (fact 𝓤 (us .0 ≡ {after})))) (id⊢ 𝓤 _) $ pick ! (λ us."); par+=1
     w(f"split ! $ move ! (1 ∷ []) $ heard ! (us .0 ≡ {after}) (λ e₄. fsplit ! $ fsplit ! $ move ! (1 ∷ []) $ feqL ! (λ n₃."); par+=2
@@ -272,7 +272,7 @@ use denote.Triple.Walked.{{{imp(['says','Stays','stay-none','stay-dropped' if ce
 use denote.Exit.{{yes}}
 use Rattle.state.specs.declared.ram.State.{{State}}
 use Rattle.state.specs.declared.ram.Scope.{{Scope}}
-{'use Rattle.cores.specs.Lent.{cleared}' if clear else 'use Rattle.store.specs.Table.{loaded, stored}'}
+{'use Rattle.cores.specs.Lent.{tableLeft}' if clear else 'use Rattle.store.specs.Table.{loaded, stored}'}
 use Rattle.store.proofs.Callees.{{{'' if clear else 'load-name, Load, '}{lo}-name, {C}}}
 use Rattle.store.proofs.Calling.{{calls-known}}
 use Rattle.store.proofs.Elem.{{{'R' if clear else 'R, Tb, tvals, t-tells, t-made, t-typed, t-known'}}}

@@ -25,37 +25,37 @@ scopes-count l = length-map (keep (startsInUse l) (l .changes)) (entryOf l)
 -- ── Counting pairs both ways ──────────────────────────────────────────────────────────────────────────────────────────
 
 module _ {A : Type 0} where
-  abbrev pub sumOf : (A → ℕ) → List A → ℕ
-  sumOf f [] = 0
-  sumOf f (x ∷ xs) = f x + sumOf f xs
+  abbrev pub sumBy : (A → ℕ) → List A → ℕ
+  sumBy f [] = 0
+  sumBy f (x ∷ xs) = f x + sumBy f xs
 
-  sum-zero : (xs : List A) → sumOf (λ x. 0) xs ≡ 0
+  sum-zero : (xs : List A) → sumBy (λ x. 0) xs ≡ 0
   sum-zero [] = refl
   sum-zero (x ∷ xs) = let k = sum-zero xs in omega arith
 
   -- one element more on the other side
   sum-more : (q : A → A → Bool) (y : A) (ys xs : List A)
-      → sumOf (λ x. length (keep (q x) (y ∷ ys))) xs ≡ length (keep (λ x. q x y) xs) + sumOf (λ x. length (keep (q x) ys)) xs
+      → sumBy (λ x. length (keep (q x) (y ∷ ys))) xs ≡ length (keep (λ x. q x y) xs) + sumBy (λ x. length (keep (q x) ys)) xs
   sum-more q y ys [] = refl
   sum-more q y ys (x ∷ xs) = go (q x y) (sum-more q y ys xs)
     where
-      go : (t : Bool) → sumOf (λ x. length (keep (q x) (y ∷ ys))) xs ≡ length (keep (λ x. q x y) xs) + sumOf (λ x. length (keep (q x) ys)) xs
-          → length (cond t (y ∷ keep (q x) ys) (keep (q x) ys)) + sumOf (λ x. length (keep (q x) (y ∷ ys))) xs
-          ≡ length (cond t (x ∷ keep (λ x. q x y) xs) (keep (λ x. q x y) xs)) + (length (keep (q x) ys) + sumOf (λ x. length (keep (q x) ys)) xs)
+      go : (t : Bool) → sumBy (λ x. length (keep (q x) (y ∷ ys))) xs ≡ length (keep (λ x. q x y) xs) + sumBy (λ x. length (keep (q x) ys)) xs
+          → length (cond t (y ∷ keep (q x) ys) (keep (q x) ys)) + sumBy (λ x. length (keep (q x) (y ∷ ys))) xs
+          ≡ length (cond t (x ∷ keep (λ x. q x y) xs) (keep (λ x. q x y) xs)) + (length (keep (q x) ys) + sumBy (λ x. length (keep (q x) ys)) xs)
       go true e = omega arith
       go false e = omega arith
 
   -- the pairs that pass the test, counted by the one and by the other
-  sum-swap : (q : A → A → Bool) (xs ys : List A) → sumOf (λ x. length (keep (q x) ys)) xs ≡ sumOf (λ y. length (keep (λ x. q x y) xs)) ys
+  sum-swap : (q : A → A → Bool) (xs ys : List A) → sumBy (λ x. length (keep (q x) ys)) xs ≡ sumBy (λ y. length (keep (λ x. q x y) xs)) ys
   sum-swap q xs [] = sum-zero xs
   sum-swap q xs (y ∷ ys) = let k = sum-swap q xs ys in let m = sum-more q y ys xs in omega arith
 
   -- where each counts for one or for none
-  sum-keep : (f : A → ℕ) (p : A → Bool) (ys : List A) → ((y : A) → In y ys → f y ≡ cond (p y) 1 0) → sumOf f ys ≡ length (keep p ys)
+  sum-keep : (f : A → ℕ) (p : A → Bool) (ys : List A) → ((y : A) → In y ys → f y ≡ cond (p y) 1 0) → sumBy f ys ≡ length (keep p ys)
   sum-keep f p [] h = refl
   sum-keep f p (y ∷ ys) h = go (p y) (h y here) (sum-keep f p ys (λ z m. h z (there m)))
     where
-      go : (t : Bool) → f y ≡ cond t 1 0 → sumOf f ys ≡ length (keep p ys) → f y + sumOf f ys ≡ length (cond t (y ∷ keep p ys) (keep p ys))
+      go : (t : Bool) → f y ≡ cond t 1 0 → sumBy f ys ≡ length (keep p ys) → f y + sumBy f ys ≡ length (cond t (y ∷ keep p ys) (keep p ys))
       go true e k = omega arith
       go false e k = omega arith
 
@@ -97,16 +97,16 @@ module _ (l : Ledger) (i : Inv l) (S : Scoped (l .changes)) where
               let holder : y .holder ≡ x .holder = sym (d .holder) ∙ ap (λ (z : Change). z .holder) is in
               clash (isActive l (y .holder)) (ap (isActive l) holder ∙ and-r (eqb (x .scope) (x .row)) _ (k .1)) q
 
-  pub counts-open : sumOf (λ (s : Scope). s .count) (scopesOf l) ≡ length (openChanges l)
+  pub counts-open : sumBy (λ (s : Scope). s .count) (scopesOf l) ≡ length (openChanges l)
   unfolding scopesOf
   counts-open =
       sum-map starters ∙ sum-swap (λ x y. eqb (y .scope) (x .row) && not (isUndone l y)) starters (l .changes) ∙
       sum-keep _ (isOpenChange l) (l .changes) in-one
     where
-      sum-map : (xs : List Change) → sumOf (λ (s : Scope). s .count) (map (entryOf l) xs) ≡ sumOf (λ (x : Change). length (standing l (x .row))) xs
+      sum-map : (xs : List Change) → sumBy (λ (s : Scope). s .count) (map (entryOf l) xs) ≡ sumBy (λ (x : Change). length (standing l (x .row))) xs
       sum-map [] = refl
       sum-map (x ∷ xs) = ap (λ (n : ℕ). length (standing l (x .row)) + n) (sum-map xs)
 
 -- of every allowed log: the counts of the scopes in use add up to the open changes
-pub counts-log : (rs : List Row) → allowedLog rs ≡ true → sumOf (λ (s : Scope). s .count) (scopesOf (ledger rs)) ≡ length (openChanges (ledger rs))
+pub counts-log : (rs : List Row) → allowedLog rs ≡ true → sumBy (λ (s : Scope). s .count) (scopesOf (ledger rs)) ≡ length (openChanges (ledger rs))
 counts-log rs e = counts-open (ledger rs) (inv-log rs e) (scoped-log rs)

@@ -1,10 +1,9 @@
 -- The journal's counters after an accepted call: at most 64 rows wait, and there are at most 4,096. Assumes nothing.
-use Prim.Native.Nat.{ℕ, zero, suc, _+_, _-_, _≤_}
+use Prim.Native.Nat.{ℕ, _≤_}
 use native.Mathlib.Omega.{arith}
 use mathlib.Core.Path.{_≡_, refl}
 use mathlib.Core.Bool.{Bool, true, false, cond}
-use mathlib.Core.List.{List, [], _∷_}
-use lib.ListN.{length}
+use mathlib.Core.List.{List}
 use lib.Dec.{leb}
 use borrow.Author.Tests.{leb-true}
 use Rattle.book.specs.Calls.{Call}
@@ -12,51 +11,15 @@ use Rattle.book.specs.Rows.{Row}
 use Rattle.tables_model.specs.declared.Whom.the-variants.{One}
 use Rattle.state.specs.declared.ram.Phase.{Phase}
 use Rattle.state.specs.declared.ram.Phase.the-variants.{Open, Closed}
-use Rattle.state.specs.declared.ram.Fuse.{Fuse}
-use Rattle.state.specs.declared.ram.Fuse.the-variants.{Unlimited, Left}
 use Rattle.journal.specs.declared.Control.{Control}
-use Rattle.journal.specs.declared.force.Run.{Run}
 use Rattle.journal.specs.declared.fuse.Spent.{Spent}
 use Rattle.journal.specs.declared.fuse.Spent.the-variants.{Lands, Beyond}
-use Rattle.journal.specs.Writes.{spendOf, putRow}
-use Rattle.journal.specs.Force.{runs, chunks, closedAt, controlAfter}
-use Rattle.journal.specs.Journal.{Journal, forced, forcedUpTo, spent, pagedIf, paged}
-use Rattle.journal.proofs.Room.{chunks-count}
+use Rattle.journal.specs.Writes.{spendOf}
+use Rattle.journal.specs.Journal.{spent, pagedIf, paged}
 use Rattle.undo.specs.Writing.{rowCount}
 use Rattle.undo.proofs.Counters.{Counters, counters-written, counters-fallAll}
+use Rattle.undo.proofs.CountersForced.{counters-forced, counters-forcedUpTo}
 use Rattle.calls_model.specs.Acts.{Core, acted, fell, upToMark, flushCount}
-
--- ── A run of stored writes ────────────────────────────────────────────────────────────────────────────────────────────
-
-run-stored : (f : Fuse) (k : ℕ) (log : List ℕ) (rs : List (List ℕ)) → runs f k log rs .run .stored ≤ k + length rs
-unfolding runs
-run-stored f k log [] = omega arith
-run-stored Unlimited k log (r ∷ rs) = omega (arith, run-stored Unlimited (suc k) (putRow log k r) rs)
-run-stored (Left zero) k log (r ∷ rs) = omega arith
-run-stored (Left (suc n)) k log (r ∷ rs) = omega (arith, run-stored (Left n) (suc k) (putRow log k r) rs)
-
--- a run that stores at most m rows, and leaves so many waiting
-after-run : (c : Control) (w m : ℕ) (run : Run) → run .stored ≤ c .stored + m → w + m ≤ c .waiting → Counters c → Counters (controlAfter c w run)
-after-run c w m run h k n = go (run .cut)
-  where
-    go : (t : Bool) → Counters (cond t (closedAt (run .stored)) (record { phase = c .phase; fuse = run .fuse; stored = run .stored; waiting = w }))
-    go true = record { few = omega arith; room = omega (arith, n .room) }
-    go false = record { few = omega (arith, n .few); room = omega (arith, n .room) }
-
-module _ (j : Journal) (n : Counters (j .control)) where
-  abbrev run : ℕ → Run
-  run m = runs (j .control .fuse) (j .control .stored) (j .log) (chunks m (j .tail)) .run
-
-  ran : (m : ℕ) → run m .stored ≤ j .control .stored + m
-  ran m = rw (chunks-count m (j .tail)) at (run-stored (j .control .fuse) (j .control .stored) (j .log) (chunks m (j .tail)))
-
-  counters-forced : Counters (forced j .control)
-  unfolding forced
-  counters-forced = after-run (j .control) 0 (j .control .waiting) (run (j .control .waiting)) (ran (j .control .waiting)) (omega arith) n
-
-  counters-forcedUpTo : (m : ℕ) → m ≤ j .control .waiting → Counters (forcedUpTo m j .control)
-  unfolding forcedUpTo
-  counters-forcedUpTo m h = after-run (j .control) (j .control .waiting - m) m (run m) (ran m) (omega arith) n
 
 -- ── A page ────────────────────────────────────────────────────────────────────────────────────────────────────────────
 

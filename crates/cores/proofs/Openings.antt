@@ -17,7 +17,7 @@ use Rattle.state.specs.World.{World, rightLengths, allowance}
 use Rattle.state.specs.Contracts.{Result, result, formats, FormatPost, OpenPost}
 use Rattle.recovery_model.specs.Openings.{opensBy}
 use Rattle.recovery_model.proofs.Post.{opens-by}
-use Rattle.cores.specs.Lent.{world, blanks, cleared, ByLength}
+use Rattle.cores.specs.Lent.{world, blanks, tableLeft, ByLength}
 
 -- a table of another length than 64 is a wrong length
 wrong-table : (w : World) → eqb (length (w .scopes)) scopeLimit ≡ false → rightLengths w ≡ false
@@ -41,7 +41,7 @@ module _ (s : State) (log charts copy : List ℕ) (n : ℕ) (a : Answer) (c : Bo
   -- the table that is left is the one that is cleared where the call says so: a table of another length stays
   left-cleared : (makes : World → Result) → ((w : World) → eqb (length (w .scopes)) scopeLimit ≡ false → makes w ≡ result 1 (pos 0) w)
       → (ys : List Scope) → left a c s′ log′ charts′ copy′ ys ≡ makes (world s log charts copy ys)
-      → _≡_ {A = Result} (record { answer = a; world = world s′ log′ charts′ copy′ (cleared ys c) }) (makes (world s log charts copy ys))
+      → _≡_ {A = Result} (record { answer = a; world = world s′ log′ charts′ copy′ (tableLeft ys c) }) (makes (world s log charts copy ys))
   left-cleared makes apart ys e =
       ap (λ (zs : List Scope). record { answer = a; world = world s′ log′ charts′ copy′ zs }) (same (eqb (length ys) scopeLimit) refl c stays) ∙ e
     where

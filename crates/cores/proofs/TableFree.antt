@@ -31,7 +31,7 @@ use Rattle.calls_model.specs.Refusals.{refusalBy}
 use Rattle.calls_model.specs.Acts.{Core, acted, valueBy}
 use Rattle.calls_model.specs.Perform.{entryIn, structOf, coreOf, worldIn, settled, decided, numberOf, performed, performedAt}
 use Rattle.calls_model.proofs.Post.{performed-post}
-use Rattle.cores.specs.Lent.{world, zeroScope, blanks, cleared, ByLength}
+use Rattle.cores.specs.Lent.{world, zeroScope, blanks, tableLeft, ByLength}
 use Rattle.cores.proofs.Performing.{Kept, kept-apart}
 
 -- the calls that have no use for the table
@@ -201,15 +201,15 @@ module _ {number : ℕ} {v : ℤ} (s : State) (log charts copy : List ℕ) (n : 
     where
       -- the promise of a result with the table ys
       Promised : Result → Type 0
-      Promised r = CallPost k (world s log charts copy ys) (r .answer) (world (r .world .state) (r .world .log) (r .world .charts) (r .world .copy) (cleared ys (cutBetween s (r .world .state))))
+      Promised r = CallPost k (world s log charts copy ys) (r .answer) (world (r .world .state) (r .world .log) (r .world .charts) (r .world .copy) (tableLeft ys (cutBetween s (r .world .state))))
 
       kept : Kept k (world s log charts copy ys) (performed (world s log charts copy ys) k)
       kept = performed-post (world s log charts copy ys) k typed
 
       -- with the table that is left, where it is known whether it is cleared
       with-cut : (a : Answer) (x : State) (l₁ h₁ p₁ : List ℕ) (c : Bool) → cutBetween s x ≡ c
-          → CallPost k (world s log charts copy ys) a (world x l₁ h₁ p₁ (cleared ys c)) → Promised (record { answer = a; world = world x l₁ h₁ p₁ ys })
-      with-cut a x l₁ h₁ p₁ c q = subst (λ (c : Bool). CallPost k (world s log charts copy ys) a (world x l₁ h₁ p₁ (cleared ys c))) (sym q)
+          → CallPost k (world s log charts copy ys) a (world x l₁ h₁ p₁ (tableLeft ys c)) → Promised (record { answer = a; world = world x l₁ h₁ p₁ ys })
+      with-cut a x l₁ h₁ p₁ c q = subst (λ (c : Bool). CallPost k (world s log charts copy ys) a (world x l₁ h₁ p₁ (tableLeft ys c))) (sym q)
 
       keeps : length ys ≡ scopeLimit → Comes s log charts copy k → Promised (performed (world s log charts copy blanks) k)
       keeps h (refuses m f) =
@@ -224,11 +224,11 @@ module _ {number : ℕ} {v : ℤ} (s : State) (log charts copy : List ℕ) (n : 
           (with-cut (answer 5 (pos 0)) worlds.closedState l₁ h₁ noCopy true (ap (λ (t : Bool). t && true) o)
           (rw (eq-eqb (length ys) scopeLimit h) (subst (Kept k (world s log charts copy ys)) (f ys h) kept)))
 
-      apart : (c : Bool) → length ys ≢ scopeLimit → cleared ys c ≡ ys
+      apart : (c : Bool) → length ys ≢ scopeLimit → tableLeft ys c ≡ ys
       apart true h = rw (ne-eqb (length ys) scopeLimit h)
       apart false h = refl
 
-      go : (t : Bool) → eqb n scopeLimit ≡ t → CallPost k (world s log charts copy ys) (answer number v) (world s′ log′ charts′ copy′ (cleared ys (cutBetween s s′)))
+      go : (t : Bool) → eqb n scopeLimit ≡ t → CallPost k (world s log charts copy ys) (answer number v) (world s′ log′ charts′ copy′ (tableLeft ys (cutBetween s s′)))
       go true q = subst Promised (sym (rw q at e)) (keeps (l ∙ eqb-true n scopeLimit q) (comes s log charts copy free))
       go false q =
           let ne : n ≢ scopeLimit = eqb-false n scopeLimit q in
@@ -240,5 +240,5 @@ module _ {number : ℕ} {v : ℤ} (s : State) (log charts copy : List ℕ) (n : 
   pub by-length : {a : Answer} {c : Bool} → a ≡ answer number v → c ≡ cutBetween s s′
       → ByLength (λ given leaves. CallPost k given a leaves) (world s log charts copy) n (world s′ log′ charts′ copy′) c
   by-length {a} {c} is cut ys l =
-      subst (λ (a : Answer). CallPost k (world s log charts copy ys) a (world s′ log′ charts′ copy′ (cleared ys c))) (sym is)
-      (subst (λ (c : Bool). CallPost k (world s log charts copy ys) (answer number v) (world s′ log′ charts′ copy′ (cleared ys c))) (sym cut) (kept-table ys l))
+      subst (λ (a : Answer). CallPost k (world s log charts copy ys) a (world s′ log′ charts′ copy′ (tableLeft ys c))) (sym is)
+      (subst (λ (c : Bool). CallPost k (world s log charts copy ys) (answer number v) (world s′ log′ charts′ copy′ (tableLeft ys c))) (sym cut) (kept-table ys l))

@@ -23,8 +23,8 @@ abbrev pub blanks : List Scope
 blanks = replicate scopeLimit zeroScope
 
 -- what a call leaves that has no use for the table: the table as it is, or, where the call clears RAM, every entry unused
-abbrev pub cleared : List Scope → Bool → List Scope
-cleared xs cut = cond cut (cond (eqb (length xs) scopeLimit) blanks xs) xs
+abbrev pub tableLeft : List Scope → Bool → List Scope
+tableLeft xs clears = cond clears (cond (eqb (length xs) scopeLimit) blanks xs) xs
 
 -- The promise P of a call as its core keeps it. The core has the number n of entries that are lent, and the table by value, of 64 entries.
 -- At 64 entries the two tables are the lent one before and after; at any other number the lent table stays.
@@ -34,4 +34,4 @@ ByValue P given n t leaves t′ =
 
 -- The promise P of a call whose core has no use for the table but the number n of its entries, and says whether the table is to be cleared.
 abbrev pub ByLength : (World → World → Type 0) → (List Scope → World) → ℕ → (List Scope → World) → Bool → Type 0
-ByLength P given n leaves cut = (ys : List Scope) → length ys ≡ n → P (given ys) (leaves (cleared ys cut))
+ByLength P given n leaves clears = (ys : List Scope) → length ys ≡ n → P (given ys) (leaves (tableLeft ys clears))

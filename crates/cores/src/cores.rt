@@ -18,10 +18,10 @@ use crate::outs::AbortOut;
 use crate::outs::BeginOut;
 use crate::outs::ChangeOut;
 use crate::outs::CommitOut;
-use crate::outs::FlushCut;
-use crate::outs::ForceCut;
+use crate::outs::FlushClears;
+use crate::outs::ForceClears;
 use crate::outs::HandOverOut;
-use crate::outs::ReadCut;
+use crate::outs::ReadClears;
 use calls::perform::perform;
 use calls_model::Request;
 use state::answers::BeginResult;
@@ -182,20 +182,20 @@ pub fn force_core(
     copy: &mut [u8],
     n: usize,
     args: ForceArgs,
-) -> ForceCut
+) -> ForceClears
     ensures { λ r. ⌜ ByLength (λ given leaves. ForcePost args given (r .result .answer) leaves) (world state (now (log .entry)) (now (charts .entry)) (now (copy .entry))) n
-        (world (r .result .state) (now (log .exit)) (now (charts .exit)) (now (copy .exit))) (r .cut) ⌝ }
+        (world (r .result .state) (now (log .exit)) (now (charts .exit)) (now (copy .exit))) (r .clears) ⌝ }
 {
     let p = perform(state, log, charts, copy, n, blank(), Request::Force);
     let s = p.state;
     let before = state.phase;
     let after = s.phase;
-    ForceCut {
+    ForceClears {
         result: ForceResult {
             state: s,
             answer: forced(p.number, p.value),
         },
-        cut: is_cut(before, after),
+        clears: is_cut(before, after),
     }
 }
 
@@ -206,20 +206,20 @@ pub fn flush_core(
     copy: &mut [u8],
     n: usize,
     args: FlushArgs,
-) -> FlushCut
+) -> FlushClears
     ensures { λ r. ⌜ ByLength (λ given leaves. FlushPost args given (r .result .answer) leaves) (world state (now (log .entry)) (now (charts .entry)) (now (copy .entry))) n
-        (world (r .result .state) (now (log .exit)) (now (charts .exit)) (now (copy .exit))) (r .cut) ⌝ }
+        (world (r .result .state) (now (log .exit)) (now (charts .exit)) (now (copy .exit))) (r .clears) ⌝ }
 {
     let p = perform(state, log, charts, copy, n, blank(), Request::Flush(args));
     let s = p.state;
     let before = state.phase;
     let after = s.phase;
-    FlushCut {
+    FlushClears {
         result: FlushResult {
             state: s,
             answer: flushed(p.number, p.value),
         },
-        cut: is_cut(before, after),
+        clears: is_cut(before, after),
     }
 }
 
@@ -230,19 +230,19 @@ pub fn read_core(
     copy: &mut [u8],
     n: usize,
     args: ReadArgs,
-) -> ReadCut
+) -> ReadClears
     ensures { λ r. ⌜ ByLength (λ given leaves. ReadPost args given (r .result .answer) leaves) (world state (now (log .entry)) (now (charts .entry)) (now (copy .entry))) n
-        (world (r .result .state) (now (log .exit)) (now (charts .exit)) (now (copy .exit))) (r .cut) ⌝ }
+        (world (r .result .state) (now (log .exit)) (now (charts .exit)) (now (copy .exit))) (r .clears) ⌝ }
 {
     let p = perform(state, log, charts, copy, n, blank(), Request::Read(args));
     let s = p.state;
     let before = state.phase;
     let after = s.phase;
-    ReadCut {
+    ReadClears {
         result: ReadResult {
             state: s,
             answer: cell_read(p.number, p.value),
         },
-        cut: is_cut(before, after),
+        clears: is_cut(before, after),
     }
 }

@@ -152,22 +152,22 @@ pub fn table_of_abort(o: AbortOut) -> [Scope; 64]
     t
 }
 
-pub struct FormatCut {
+pub struct FormatClears {
     pub result: FormatResult,
-    pub cut: bool,
+    pub clears: bool,
 }
 
-pub fn result_of_format(o: FormatCut) -> FormatResult
+pub fn result_of_format(o: FormatClears) -> FormatResult
     ensures { λ r. ⌜ r ≡ o .result ⌝ }
 {
     let r = o.result;
     r
 }
 
-pub fn cut_of_format(o: FormatCut) -> bool
-    ensures { λ r. ⌜ r ≡ o .cut ⌝ }
+pub fn clears_of_format(o: FormatClears) -> bool
+    ensures { λ r. ⌜ r ≡ o .clears ⌝ }
 {
-    o.cut
+    o.clears
 }
 
 pub struct FormatOut {
@@ -184,22 +184,22 @@ pub fn out_of_format(r: FormatResult, t: [Scope; 64]) -> FormatOut
     }
 }
 
-pub struct OpenCut {
+pub struct OpenClears {
     pub result: OpenResult,
-    pub cut: bool,
+    pub clears: bool,
 }
 
-pub fn result_of_open(o: OpenCut) -> OpenResult
+pub fn result_of_open(o: OpenClears) -> OpenResult
     ensures { λ r. ⌜ r ≡ o .result ⌝ }
 {
     let r = o.result;
     r
 }
 
-pub fn cut_of_open(o: OpenCut) -> bool
-    ensures { λ r. ⌜ r ≡ o .cut ⌝ }
+pub fn clears_of_open(o: OpenClears) -> bool
+    ensures { λ r. ⌜ r ≡ o .clears ⌝ }
 {
-    o.cut
+    o.clears
 }
 
 pub struct OpenOut {
@@ -216,22 +216,22 @@ pub fn out_of_open(r: OpenResult, t: [Scope; 64]) -> OpenOut
     }
 }
 
-pub struct ForceCut {
+pub struct ForceClears {
     pub result: ForceResult,
-    pub cut: bool,
+    pub clears: bool,
 }
 
-pub fn result_of_force(o: ForceCut) -> ForceResult
+pub fn result_of_force(o: ForceClears) -> ForceResult
     ensures { λ r. ⌜ r ≡ o .result ⌝ }
 {
     let r = o.result;
     r
 }
 
-pub fn cut_of_force(o: ForceCut) -> bool
-    ensures { λ r. ⌜ r ≡ o .cut ⌝ }
+pub fn clears_of_force(o: ForceClears) -> bool
+    ensures { λ r. ⌜ r ≡ o .clears ⌝ }
 {
-    o.cut
+    o.clears
 }
 
 pub struct ForceOut {
@@ -248,22 +248,22 @@ pub fn out_of_force(r: ForceResult, t: [Scope; 64]) -> ForceOut
     }
 }
 
-pub struct FlushCut {
+pub struct FlushClears {
     pub result: FlushResult,
-    pub cut: bool,
+    pub clears: bool,
 }
 
-pub fn result_of_flush(o: FlushCut) -> FlushResult
+pub fn result_of_flush(o: FlushClears) -> FlushResult
     ensures { λ r. ⌜ r ≡ o .result ⌝ }
 {
     let r = o.result;
     r
 }
 
-pub fn cut_of_flush(o: FlushCut) -> bool
-    ensures { λ r. ⌜ r ≡ o .cut ⌝ }
+pub fn clears_of_flush(o: FlushClears) -> bool
+    ensures { λ r. ⌜ r ≡ o .clears ⌝ }
 {
-    o.cut
+    o.clears
 }
 
 pub struct FlushOut {
@@ -280,22 +280,22 @@ pub fn out_of_flush(r: FlushResult, t: [Scope; 64]) -> FlushOut
     }
 }
 
-pub struct ReadCut {
+pub struct ReadClears {
     pub result: ReadResult,
-    pub cut: bool,
+    pub clears: bool,
 }
 
-pub fn result_of_read(o: ReadCut) -> ReadResult
+pub fn result_of_read(o: ReadClears) -> ReadResult
     ensures { λ r. ⌜ r ≡ o .result ⌝ }
 {
     let r = o.result;
     r
 }
 
-pub fn cut_of_read(o: ReadCut) -> bool
-    ensures { λ r. ⌜ r ≡ o .cut ⌝ }
+pub fn clears_of_read(o: ReadClears) -> bool
+    ensures { λ r. ⌜ r ≡ o .clears ⌝ }
 {
-    o.cut
+    o.clears
 }
 
 pub struct ReadOut {

@@ -16,7 +16,8 @@ use Rattle.state.specs.declared.ram.Fuse.the-variants.{Unlimited, Left}
 use Rattle.journal.specs.declared.Control.{Control}
 use Rattle.journal.specs.declared.force.Run.{Run}
 
-run-bound : (f : Fuse) (k : ℕ) (log : List ℕ) (rs : List (List ℕ)) → runs f k log rs .run .stored ≤ k + length rs
+-- a run stores at most the rows that it is given
+pub run-bound : (f : Fuse) (k : ℕ) (log : List ℕ) (rs : List (List ℕ)) → runs f k log rs .run .stored ≤ k + length rs
 unfolding runs
 run-bound f k log [] = omega arith
 run-bound Unlimited k log (r ∷ rs) = omega (arith, run-bound Unlimited (suc k) (putRow log k r) rs)

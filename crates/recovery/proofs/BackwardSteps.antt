@@ -1,27 +1,21 @@
 -- The backward part of an opening: the turns of the loop that ends each active visit, the journal's counters, and its three steps. Assumes nothing.
-use Prim.Native.Nat.{ℕ, zero, suc, _+_, _-_, _≤_, _<_}
+use Prim.Native.Nat.{ℕ, zero, suc, _-_, _≤_, _<_}
 use mathlib.Core.Path.{_≡_, refl, ap, _∙_}
-use mathlib.Core.Bool.{Bool, true, false, cond}
-use mathlib.Core.List.{List, [], _∷_}
+use mathlib.Core.List.{List}
 use native.Mathlib.Omega.{arith}
-use lib.ListN.{getD, length}
+use lib.ListN.{getD}
 use Rattle.book.specs.Rows.{Row}
 use Rattle.state.specs.declared.ram.Fuse.{Fuse}
-use Rattle.state.specs.declared.ram.Fuse.the-variants.{Unlimited, Left}
 use Rattle.tables_model.specs.declared.Active.{Active}
 use Rattle.tables_model.specs.declared.Tables.{Tables}
 use Rattle.tables_model.specs.Visits.{vacant}
 use Rattle.tables_model.specs.declared.Whom.the-variants.{All}
 use Rattle.tables_model.specs.Rows.{Index}
-use Rattle.journal.specs.declared.Control.{Control}
-use Rattle.journal.specs.declared.force.Run.{Run}
-use Rattle.journal.specs.Writes.{putRow}
-use Rattle.journal.specs.Force.{runs, chunks, closedAt, controlAfter}
 use Rattle.journal.specs.Journal.{Journal, forced}
-use Rattle.journal.proofs.Room.{chunks-count}
 use Rattle.undo.specs.Writing.{Ram, written}
 use Rattle.undo.specs.TakeBack.{Taking, fallAll}
 use Rattle.undo.proofs.Counters.{Counters, counters-written, counters-fallAll}
+use Rattle.undo.proofs.CountersForced.{counters-forced}
 use Rattle.recovery_model.specs.Backward.{abortAll, starting, backward}
 
 module _ (t : Tables) (m : Ram) where
@@ -50,30 +44,6 @@ unfolding abortAll
 counters-aborted zero t m h = h
 counters-aborted (suc n) t m h =
     let r = Row.abort (getD (t .active) n vacant .visit .0) in counters-aborted n t (written m r) (counters-written m r h)
-
--- ── Force ─────────────────────────────────────────────────────────────────────────────────────────────────────────────
-
-run-bound : (f : Fuse) (k : ℕ) (log : List ℕ) (rs : List (List ℕ)) → runs f k log rs .run .stored ≤ k + length rs
-unfolding runs
-run-bound f k log [] = omega arith
-run-bound Unlimited k log (r ∷ rs) = omega (arith, run-bound Unlimited (suc k) (putRow log k r) rs)
-run-bound (Left zero) k log (r ∷ rs) = omega arith
-run-bound (Left (suc n)) k log (r ∷ rs) = omega (arith, run-bound (Left n) (suc k) (putRow log k r) rs)
-
-after-run : (c : Control) (run : Run) → run .stored ≤ 4096 → Counters (controlAfter c 0 run)
-after-run c run h = go (run .cut)
-  where
-    go : (t : Bool) → Counters (cond t (closedAt (run .stored)) (record { phase = c .phase; fuse = run .fuse; stored = run .stored; waiting = 0 }))
-    go true = record { few = omega arith; room = omega arith }
-    go false = record { few = omega arith; room = omega arith }
-
-counters-forced : (j : Journal) → Counters (j .control) → Counters (forced j .control)
-unfolding forced
-counters-forced j h =
-    let rs = chunks (j .control .waiting) (j .tail) in
-    let n = chunks-count (j .control .waiting) (j .tail) in
-    let b = run-bound (j .control .fuse) (j .control .stored) (j .log) rs in
-    after-run (j .control) (runs (j .control .fuse) (j .control .stored) (j .log) rs .run) (omega (arith, h .room))
 
 -- ── The three steps ───────────────────────────────────────────────────────────────────────────────────────────────────
 

@@ -2,7 +2,6 @@
 ghost use mathlib.Core.Path.{_≡_};
 ghost use lib.ListN.{length};
 ghost use Rattle.book.specs.Rows.{undoneBy};
-ghost use Rattle.book.specs.RowBytes.{rowOf};
 ghost use Rattle.rows.specs.Meaning.{meant, coded};
 ghost use Rattle.tables_model.specs.declared.Whom.the-variants.{One};
 ghost use Rattle.tables_model.specs.Entries.{scopeIn, entries};
@@ -14,7 +13,6 @@ ghost use Rattle.recovery_model.specs.Checking.{Rows};
 use rows::Lsn;
 use rows::Row;
 use rows::Visit;
-use rows::numbers::wide;
 use rows::reader::row_in;
 use tables::entries::entry_at;
 use tables::lookup::highest;
@@ -22,6 +20,7 @@ use tables_model::Entry;
 use tables_model::Found;
 use tables_model::Tables;
 use tables_model::Whom;
+use undo::look::is_change_by;
 
 // Row n, counted from 1, if it is one of the first k. Of no such row any will do.
 pub fn row_in_log(log: &[u8], k: usize, n: usize) -> Row
@@ -39,21 +38,7 @@ pub fn row_in_log(log: &[u8], k: usize, n: usize) -> Row
     row_in(&log[a..e])
 }
 
-// The 16 bytes are a change of the cell by the maker: kind, visit and cell alone are looked at.
-fn is_change_by(b: &[u8], maker: u16, cell: u16) -> bool
-    requires { ⌜ length (now b) ≡ 16 ⌝ }
-    ensures { λ r. ⌜ r ≡ isChangeBy maker cell (rowOf (now (b .entry))) ⌝ }
-{
-    if b[0] != 2 {
-        return false;
-    }
-    if wide(b[1]) != maker {
-        return false;
-    }
-    wide(b[3]) == cell
-}
-
-// Row n is such a change.
+// Row n is a change of the cell by the maker.
 fn is_change_at(log: &[u8], k: usize, n: usize, maker: u16, cell: u16) -> bool
     requires { ⌜ Rows (length (now log)) k ⌝ }
     ensures { λ r. ⌜ r ≡ isChangeBy maker cell (rowIn (now (log .entry)) k n) ⌝ }
@@ -75,7 +60,7 @@ fn before_last(log: &[u8], k: usize, s: Entry) -> Lsn
     ensures { λ r. ⌜ r .0 ≡ beforeLast (rowIn (now (log .entry)) k) (scopeIn s) ⌝ }
 {
     let mut n = s.last;
-    while 1 < n {
+    while 0 < n {
         n -= 1;
         if n < s.first {
             return Lsn(0);

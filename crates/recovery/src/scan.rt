@@ -6,7 +6,7 @@ ghost use Rattle.rows.specs.Meaning.{meant};
 ghost use Rattle.book.specs.Rows.{undoneBy};
 ghost use Rattle.tables_model.specs.Rows.{Ready, index, judgeBy};
 ghost use Rattle.recovery_model.specs.Scan.{rowIn, ruled, judgeRow, scanFrom, firstSet, scanned};
-ghost use Rattle.recovery_model.specs.Checking.{Rows, Next, judgement, found};
+ghost use Rattle.recovery_model.specs.Checking.{Next, judgement, found};
 ghost use Rattle.recovery_model.specs.Openings.{noIndex};
 use crate::look::before_undone;
 use crate::look::named_by;

@@ -9,7 +9,7 @@ use lib.Dec.{eqb}
 use lib.ListN.{length, length-replicate}
 use borrow.Author.Tests.{eqb-true}
 use Rattle.state.specs.declared.ram.Scope.{Scope}
-use Rattle.cores.specs.Lent.{zeroScope, blanks, cleared}
+use Rattle.cores.specs.Lent.{zeroScope, blanks, tableLeft}
 use Rattle.store.specs.Table.{limitOf, loaded, stored, clearLimit}
 use Rattle.store.proofs.Fill.{part, part-all}
 
@@ -49,6 +49,6 @@ pub clear-64 : (n : ℕ) (clears : Bool) → clearLimit n clears ≤ 64
 clear-64 n true = limit-64 n
 clear-64 n false = zero-le
 
-pub clear-end : (ys : List Scope) (clears : Bool) → part blanks ys (clearLimit (length ys) clears) ≡ cleared ys clears
+pub clear-end : (ys : List Scope) (clears : Bool) → part blanks ys (clearLimit (length ys) clears) ≡ tableLeft ys clears
 clear-end ys true = store-end ys blanks (length-replicate 64 zeroScope)
 clear-end ys false = refl

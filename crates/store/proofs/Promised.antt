@@ -31,7 +31,7 @@ use denote.Exit.{yes}
 use Rattle.state.specs.declared.ram.State.{State}
 use Rattle.state.specs.declared.ram.Scope.{Scope}
 use Rattle.state.specs.World.{World}
-use Rattle.cores.specs.Lent.{world, blanks, cleared, ByValue, ByLength}
+use Rattle.cores.specs.Lent.{world, blanks, tableLeft, ByValue, ByLength}
 use Rattle.store.specs.Table.{loaded, stored}
 use Rattle.store.proofs.Elem.{R}
 use Rattle.store.proofs.Locals.{K, Bytes}
@@ -56,7 +56,7 @@ pub record OnLength {A : Type 0} (c : Call A) : Type 2 where
   pub result-of : Of out → Of (c .result)
   pub clears-of : Of out → Bool
   pub CoreP : State → Bytes → Bytes → Bytes → ℕ → A → Of out → Bytes → Bytes → Bytes → Type 0
-  pub shown : (k : State) (l h p : Bytes) (ys : List Scope) (a : A) (o : Of out) (l′ h′ p′ : Bytes) → CoreP k l h p (length ys) a o l′ h′ p′ → c .Ens k l h p ys a (result-of o) l′ h′ p′ (cleared ys (clears-of o))
+  pub shown : (k : State) (l h p : Bytes) (ys : List Scope) (a : A) (o : Of out) (l′ h′ p′ : Bytes) → CoreP k l h p (length ys) a o l′ h′ p′ → c .Ens k l h p ys a (result-of o) l′ h′ p′ (tableLeft ys (clears-of o))
   pub core-key : Name
   pub result-key : Name
   pub clears-key : Name

@@ -43,7 +43,7 @@ use denote.Triple.Walked.{says, Stays, stay-none, gave-slice, walkOf, goes-none,
 use denote.Exit.{yes}
 use Rattle.state.specs.declared.ram.State.{State}
 use Rattle.state.specs.declared.ram.Scope.{Scope}
-use Rattle.cores.specs.Lent.{cleared}
+use Rattle.cores.specs.Lent.{tableLeft}
 use Rattle.store.proofs.Callees.{clear-name, Clear}
 use Rattle.store.proofs.Calling.{calls-known}
 use Rattle.store.proofs.Elem.{R}
@@ -133,7 +133,7 @@ module _ (X : Plain) (c : Call (Of X)) (d : OnLength c) where
     abbrev Post : Val → SProp 𝓤
     Post = walkOf 𝓤 H A (ended X c) stayed (clauses X c 𝓤) .post bound
 
-    exits : (o : Of (d .out)) (r : Of (c .result)) (w : Val) (l′ h′ p′ : Bytes) (zs : List Scope) → d .CoreP k (s₀ .now) (s₁ .now) (s₂ .now) (length ys) a o l′ h′ p′ → r ≡ d .result-of o → zs ≡ cleared ys (d .clears-of o)
+    exits : (o : Of (d .out)) (r : Of (c .result)) (w : Val) (l′ h′ p′ : Bytes) (zs : List Scope) → d .CoreP k (s₀ .now) (s₁ .now) (s₂ .now) (length ys) a o l′ h′ p′ → r ≡ d .result-of o → zs ≡ tableLeft ys (d .clears-of o)
         → length l′ ≡ length (s₀ .now) → length h′ ≡ length (s₁ .now) → length p′ ≡ length (s₂ .now) → length zs ≡ length ys
         → ent 𝓤 (⋆ 𝓤 H A (‵ (c .result .row .own r (w ∷ [])) ∷ (‵ (flft κ₃ q₃) ⊛ ‵ ftrue) ∷ ‵ (finally R (ss .name) zs) ∷ (‵ (flft κ₀ q₀) ⊛ (‵ (flft κ₁ q₁) ⊛ (‵ (flft κ₂ q₂) ⊛ ‵ ftrue))) ∷ ‵ (finally u8 (s₂ .name) p′) ∷ ‵ (finally u8 (s₁ .name) h′) ∷ ‵ (finally u8 (s₀ .name) l′) ∷ [])) (Post w)
     exits o r w l′ h′ p′ zs e₂ e₅ e₄ n₀ n₁ n₂ n₃ =
@@ -212,8 +212,8 @@ module _ (X : Plain) (c : Call (Of X)) (d : OnLength c) where
           move ! (5 ∷ 4 ∷ []) $ use2 W (raw (Clear 𝓤 H A mem run .pre (to-clear r₂))) (goes-clear r₂) $
           calls-at ! (fmOf 𝓤 H (W .laws) 𝓣) (Clear 𝓤 H A mem run) known-clear (to-clear r₂) (and-then ! (load ! (from ! (stop !)) (look ! 7 refl)) (and-then ! (load ! (from ! (stop !)) (look ! 5 refl)) (no-more !))) (λ w₄.
           use1 W (later (some (λ (r : Unit {0}). ((‵ (flft κ₃ q₃) ⊛ ‵ ftrue) ⊛ ‵ (Nothing .own r (w₄ ∷ []))) ⊛ raw (ensured 𝓤 H A clear′.ended (clear′.clauses 𝓤 H A mem run) (κ₃, tt) (ss, (d .clears-of r₂, tt)) tt r)))) (id⊢ 𝓤 _) $ await ! tt $ pick ! (λ r₄.
-          split ! $ move ! (1 ∷ []) $ use1 W (some (λ (us : List Scope × (Unit {0} × Unit {0})). ‵ (lasts clear′.ended (κ₃, tt) (ss, (d .clears-of r₂, tt)) us) ⊛ raw (fact 𝓤 (us .0 ≡ cleared ys (d .clears-of r₂))))) (id⊢ 𝓤 _) $ pick ! (λ us.
-          split ! $ move ! (1 ∷ []) $ heard ! (us .0 ≡ cleared ys (d .clears-of r₂)) (λ e₄. fsplit ! $ fsplit ! $ move ! (1 ∷ []) $ feqL ! (λ n₃.
+          split ! $ move ! (1 ∷ []) $ use1 W (some (λ (us : List Scope × (Unit {0} × Unit {0})). ‵ (lasts clear′.ended (κ₃, tt) (ss, (d .clears-of r₂, tt)) us) ⊛ raw (fact 𝓤 (us .0 ≡ tableLeft ys (d .clears-of r₂))))) (id⊢ 𝓤 _) $ pick ! (λ us.
+          split ! $ move ! (1 ∷ []) $ heard ! (us .0 ≡ tableLeft ys (d .clears-of r₂)) (λ e₄. fsplit ! $ fsplit ! $ move ! (1 ∷ []) $ feqL ! (λ n₃.
           move ! (2 ∷ []) $ split ! $ move ! (1 ∷ []) $ peeks ! Nothing (Is Nothing) (shows 𝓤 H A Nothing) r₄ (w₄ ∷ []) (λ is₄.
           land ! (from ! (stop !)) (init ! 14 refl (nothing-lawful 𝓤 H A W .typed r₄ (w₄ ∷ []) is₄ .0)) $ drop ! $
           -- [the table's token; its last list; …; the core's tokens; the last lists of copy, charts, log; _18 at 7; …]: the result

@@ -15,11 +15,11 @@ use cores::cores::hand_over_core;
 use cores::cores::read_core;
 use cores::opening::format_core;
 use cores::opening::open_core;
-use cores::outs::cut_of_flush;
-use cores::outs::cut_of_force;
-use cores::outs::cut_of_format;
-use cores::outs::cut_of_open;
-use cores::outs::cut_of_read;
+use cores::outs::clears_of_flush;
+use cores::outs::clears_of_force;
+use cores::outs::clears_of_format;
+use cores::outs::clears_of_open;
+use cores::outs::clears_of_read;
 use cores::outs::result_of_abort;
 use cores::outs::result_of_begin;
 use cores::outs::result_of_change;
@@ -68,7 +68,7 @@ pub fn format(
 {
     let n = scopes.len();
     let o = format_core(state, log, charts, copy, n, cells);
-    clear(scopes, cut_of_format(o));
+    clear(scopes, clears_of_format(o));
     result_of_format(o)
 }
 
@@ -85,7 +85,7 @@ pub fn open(
 {
     let n = scopes.len();
     let o = open_core(state, log, charts, copy, n, args);
-    clear(scopes, cut_of_open(o));
+    clear(scopes, clears_of_open(o));
     result_of_open(o)
 }
 
@@ -192,7 +192,7 @@ pub fn force(
 {
     let n = scopes.len();
     let o = force_core(state, log, charts, copy, n, args);
-    clear(scopes, cut_of_force(o));
+    clear(scopes, clears_of_force(o));
     result_of_force(o)
 }
 
@@ -209,7 +209,7 @@ pub fn flush(
 {
     let n = scopes.len();
     let o = flush_core(state, log, charts, copy, n, args);
-    clear(scopes, cut_of_flush(o));
+    clear(scopes, clears_of_flush(o));
     result_of_flush(o)
 }
 
@@ -226,6 +226,6 @@ pub fn read(
 {
     let n = scopes.len();
     let o = read_core(state, log, charts, copy, n, args);
-    clear(scopes, cut_of_read(o));
+    clear(scopes, clears_of_read(o));
     result_of_read(o)
 }

@@ -3,7 +3,7 @@ use cores::entries::blank;
 use cores::entries::unused;
 use state::ram::Scope;
 ghost use mathlib.Core.Path.{_≡_};
-ghost use Rattle.cores.specs.Lent.{cleared};
+ghost use Rattle.cores.specs.Lent.{tableLeft};
 ghost use Rattle.store.specs.Table.{limitOf, loaded, stored, clearLimit};
 
 pub fn limit(n: usize) -> usize
@@ -48,7 +48,7 @@ pub fn clear_limit(n: usize, clears: bool) -> usize
 
 // Makes every entry unused where `clears` says so; else nothing is written.
 pub fn clear(s: &mut [Scope], clears: bool)
-    ensures { λ _. ⌜ now (s .exit) ≡ cleared (now (s .entry)) clears ⌝ }
+    ensures { λ _. ⌜ now (s .exit) ≡ tableLeft (now (s .entry)) clears ⌝ }
 {
     let n = clear_limit(s.len(), clears);
     let z = unused();

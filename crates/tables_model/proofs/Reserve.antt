@@ -9,14 +9,14 @@ use Rattle.book.specs.Rules.{openChanges, reserve}
 use Rattle.book.specs.Scopes.{Scope, unused, scopesOf}
 use Rattle.book.proofs.Invariant.{Inv}
 use Rattle.book.proofs.Scoped.{Scoped}
-use Rattle.book.proofs.Counts.{sumOf, counts-open}
+use Rattle.book.proofs.Counts.{sumBy, counts-open}
 use Rattle.tables_model.specs.Table.{countAll, openCount}
 use Rattle.tables_model.specs.Rows.{reserveBy}
 use Rattle.tables_model.specs.Meaning.{tablesOf, scopeTable, indexOf}
 use Rattle.tables_model.proofs.Reversed.{count-reverse}
 use Rattle.tables_model.proofs.Padded.{take-pad}
 
-count-sum : (ss : List Scope) → countAll ss ≡ sumOf (λ (s : Scope). s .count) ss
+count-sum : (ss : List Scope) → countAll ss ≡ sumBy (λ (s : Scope). s .count) ss
 count-sum [] = refl
 count-sum (s ∷ ss) = ap (λ (n : ℕ). s .count + n) (count-sum ss)
 

@@ -1,37 +1,33 @@
--- A force keeps the journal's counters within their limits: what is stored was waiting. Assumes nothing.
-use Prim.Native.Nat.{ℕ, zero, suc, _+_, _≤_}
+-- A force, of all waiting rows or of the first ones, keeps the journal's counters within their limits: what is stored was waiting. Assumes nothing.
+use Prim.Native.Nat.{ℕ, _+_, _-_, _≤_}
 use native.Mathlib.Omega.{arith}
 use mathlib.Core.Bool.{Bool, true, false, cond}
-use mathlib.Core.List.{List, [], _∷_}
-use lib.ListN.{length}
-use Rattle.state.specs.declared.ram.Fuse.{Fuse}
-use Rattle.state.specs.declared.ram.Fuse.the-variants.{Unlimited, Left}
 use Rattle.journal.specs.declared.Control.{Control}
 use Rattle.journal.specs.declared.force.Run.{Run}
-use Rattle.journal.specs.Writes.{putRow}
 use Rattle.journal.specs.Force.{chunks, runs, closedAt, controlAfter}
-use Rattle.journal.specs.Journal.{Journal, forced}
-use Rattle.journal.proofs.Room.{chunks-count}
+use Rattle.journal.specs.Journal.{Journal, forced, forcedUpTo}
+use Rattle.journal.proofs.Room.{run-bound, chunks-count}
 use Rattle.undo.proofs.Counters.{Counters}
 
-run-stored : (f : Fuse) (k : ℕ) (log : List ℕ) (rs : List (List ℕ)) → runs f k log rs .run .stored ≤ k + length rs
-unfolding runs
-run-stored f k log [] = omega arith
-run-stored Unlimited k log (r ∷ rs) = omega (arith, run-stored Unlimited (suc k) (putRow log k r) rs)
-run-stored (Left zero) k log (r ∷ rs) = omega arith
-run-stored (Left (suc n)) k log (r ∷ rs) = omega (arith, run-stored (Left n) (suc k) (putRow log k r) rs)
-
-counters-run : (c : Control) (run : Run) → run .stored ≤ 4096 → Counters (controlAfter c 0 run)
-counters-run c run h = go (run .cut)
+-- a run that stores at most m rows, and leaves so many waiting
+after-run : (c : Control) (w m : ℕ) (run : Run) → run .stored ≤ c .stored + m → w + m ≤ c .waiting → Counters c → Counters (controlAfter c w run)
+after-run c w m run h k n = go (run .cut)
   where
-    go : (t : Bool) → Counters (cond t (closedAt (run .stored)) (record { phase = c .phase; fuse = run .fuse; stored = run .stored; waiting = 0 }))
-    go true = record { few = omega arith; room = omega arith }
-    go false = record { few = omega arith; room = omega arith }
+    go : (t : Bool) → Counters (cond t (closedAt (run .stored)) (record { phase = c .phase; fuse = run .fuse; stored = run .stored; waiting = w }))
+    go true = record { few = omega arith; room = omega (arith, n .room) }
+    go false = record { few = omega (arith, n .few); room = omega (arith, n .room) }
 
-pub counters-forced : (j : Journal) → Counters (j .control) → Counters (forced j .control)
-unfolding forced
-counters-forced j h =
-    let rs = chunks (j .control .waiting) (j .tail) in
-    let b = run-stored (j .control .fuse) (j .control .stored) (j .log) rs in
-    let n = chunks-count (j .control .waiting) (j .tail) in
-    counters-run (j .control) (runs (j .control .fuse) (j .control .stored) (j .log) rs .run) (omega (arith, h .room))
+module _ (j : Journal) (n : Counters (j .control)) where
+  abbrev run : ℕ → Run
+  run m = runs (j .control .fuse) (j .control .stored) (j .log) (chunks m (j .tail)) .run
+
+  ran : (m : ℕ) → run m .stored ≤ j .control .stored + m
+  ran m = rw (chunks-count m (j .tail)) at (run-bound (j .control .fuse) (j .control .stored) (j .log) (chunks m (j .tail)))
+
+  pub counters-forced : Counters (forced j .control)
+  unfolding forced
+  counters-forced = after-run (j .control) 0 (j .control .waiting) (run (j .control .waiting)) (ran (j .control .waiting)) (omega arith) n
+
+  pub counters-forcedUpTo : (m : ℕ) → m ≤ j .control .waiting → Counters (forcedUpTo m j .control)
+  unfolding forcedUpTo
+  counters-forcedUpTo m h = after-run (j .control) (j .control .waiting - m) m (run m) (ran m) (omega arith) n

@@ -1,7 +1,7 @@
 -- The functions are their mirror: what their proofs cite.
 pub mod Counters
 mod Falling
-mod LookUps
+pub mod LookUps
 -- The mirror means the book: rows written, looked up and taken back stand for the book with those rows.
 pub mod CountersForced
 pub mod Steady

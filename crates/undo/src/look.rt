@@ -38,7 +38,7 @@ pub fn row_at(c: Control, log: &[u8], tail: &[u8], n: usize) -> Row
 }
 
 // The 16 bytes are a change of the cell by the maker: kind, visit and cell alone are looked at.
-fn is_change_by(b: &[u8], maker: u16, cell: u16) -> bool
+pub fn is_change_by(b: &[u8], maker: u16, cell: u16) -> bool
     requires { ⌜ length (now b) ≡ 16 ⌝ }
     ensures { λ r. ⌜ r ≡ isChangeBy maker cell (rowOf (now (b .entry))) ⌝ }
 {

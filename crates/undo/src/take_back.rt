@@ -5,7 +5,7 @@ ghost use Prim.Native.Nat.{_+_, _<_, _≤_};
 ghost use lib.ListN.{length};
 ghost use Rattle.rows.specs.Meaning.{meant};
 ghost use Rattle.tables_model.specs.Entries.{entries};
-ghost use Rattle.undo.specs.Writing.{ram, Fits};
+ghost use Rattle.undo.specs.Writing.{Fits};
 ghost use Rattle.state.specs.World.{isOpenPhase};
 ghost use Rattle.tables_model.specs.Table.{highest as highestIn};
 ghost use Rattle.tables_model.specs.declared.Found.the-variants.{Nothing};

@@ -4,11 +4,11 @@ use mathlib.Core.Path.{refl}
 use mathlib.Core.List.{List}
 use lib.IntN.{ℤ}
 use Rattle.cores.proofs.opening.format_core.Symbol.{name as core-name}
-use Rattle.cores.proofs.outs.FormatCut as C
-use Rattle.cores.proofs.outs.FormatCut.Laws as C′
+use Rattle.cores.proofs.outs.FormatClears as C
+use Rattle.cores.proofs.outs.FormatClears.Laws as C′
 use Rattle.cores.proofs.outs.FormatOut as O
 use Rattle.cores.proofs.outs.FormatOut.Laws as O′
-use Rattle.cores.proofs.outs.cut_of_format.Symbol.{name as clears-name}
+use Rattle.cores.proofs.outs.clears_of_format.Symbol.{name as clears-name}
 use Rattle.cores.proofs.outs.out_of_format.Symbol.{name as out-name}
 use Rattle.cores.proofs.outs.result_of_format.Symbol.{name as result-name}
 use Rattle.cores.specs.Posts.{FormatCall}
@@ -22,7 +22,7 @@ abbrev pub call : Call (List ℤ)
 call = promise (struct Y.the-type Y′.the-laws Y′.the-plain Y′.the-copy) (λ r. r .state) (λ cells given r. FormatCall cells given (r .answer))
 
 abbrev pub core : OnLength call
-core = on-length (call .result) (λ r. r .state) (λ cells given r. FormatCall cells given (r .answer)) (struct C.the-type C′.the-laws C′.the-plain C′.the-copy) (λ o. o .result) (λ o. o .cut) core-name result-name clears-name
+core = on-length (call .result) (λ r. r .state) (λ cells given r. FormatCall cells given (r .answer)) (struct C.the-type C′.the-laws C′.the-plain C′.the-copy) (λ o. o .result) (λ o. o .clears) core-name result-name clears-name
 
 abbrev pub on : ByTable call
 on = record {

@@ -2,11 +2,11 @@
 -- Assumes nothing.
 use mathlib.Core.Path.{refl}
 use Rattle.cores.proofs.opening.open_core.Symbol.{name as core-name}
-use Rattle.cores.proofs.outs.OpenCut as C
-use Rattle.cores.proofs.outs.OpenCut.Laws as C′
+use Rattle.cores.proofs.outs.OpenClears as C
+use Rattle.cores.proofs.outs.OpenClears.Laws as C′
 use Rattle.cores.proofs.outs.OpenOut as O
 use Rattle.cores.proofs.outs.OpenOut.Laws as O′
-use Rattle.cores.proofs.outs.cut_of_open.Symbol.{name as clears-name}
+use Rattle.cores.proofs.outs.clears_of_open.Symbol.{name as clears-name}
 use Rattle.cores.proofs.outs.out_of_open.Symbol.{name as out-name}
 use Rattle.cores.proofs.outs.result_of_open.Symbol.{name as result-name}
 use Rattle.cores.specs.Posts.{OpenCall}
@@ -25,7 +25,7 @@ abbrev pub call : Call (Of args)
 call = promise (struct Y.the-type Y′.the-laws Y′.the-plain Y′.the-copy) (λ r. r .state) (λ args given r. OpenCall args given (r .answer))
 
 abbrev pub core : OnLength call
-core = on-length (call .result) (λ r. r .state) (λ args given r. OpenCall args given (r .answer)) (struct C.the-type C′.the-laws C′.the-plain C′.the-copy) (λ o. o .result) (λ o. o .cut) core-name result-name clears-name
+core = on-length (call .result) (λ r. r .state) (λ args given r. OpenCall args given (r .answer)) (struct C.the-type C′.the-laws C′.the-plain C′.the-copy) (λ o. o .result) (λ o. o .clears) core-name result-name clears-name
 
 abbrev pub on : ByTable call
 on = record {

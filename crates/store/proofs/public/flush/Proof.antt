@@ -6,8 +6,8 @@ use denote.Triple.Spec.{tripleOf}
 use denote.Triple.Table.{entered, cited}
 use Rattle.cores.proofs.cores.flush_core.Met as core-met
 use Rattle.cores.proofs.cores.flush_core.Symbol as core-def
-use Rattle.cores.proofs.outs.cut_of_flush.Met as clears-met
-use Rattle.cores.proofs.outs.cut_of_flush.Symbol as clears-def
+use Rattle.cores.proofs.outs.clears_of_flush.Met as clears-met
+use Rattle.cores.proofs.outs.clears_of_flush.Symbol as clears-def
 use Rattle.cores.proofs.outs.result_of_flush.Met as result-met
 use Rattle.cores.proofs.outs.result_of_flush.Symbol as result-def
 use Rattle.store.proofs.Callees.{Clear}
@@ -27,6 +27,6 @@ flush-spec 𝓤 H 𝓜 𝓖 𝓡 =
     entered 𝓤 H (tripleOf 𝓤 H (𝓖 .A) this.signature (this.spec 𝓤 H (𝓖 .A) (𝓜 .mem) (𝓡 .run))) (tables 𝓤 H 𝓜 𝓡 code.env .C) (tables 𝓤 H 𝓜 𝓡 code.env .Λ) key code.function (code.unfolded 𝓤 H 𝓜 𝓡)
     (thin-meets args call core 𝓤 H (𝓖 .A) (givenOf 𝓤 H 𝓜 𝓖) (𝓜 .mem) (𝓡 .run) (tablesOf 𝓤 H 𝓜 (tables 𝓤 H 𝓜 𝓡 code.env))
     (cited 𝓤 H (Core args call core 𝓤 H (𝓖 .A)) 𝓜 𝓡 code.env core-def.name core-def.routine code.calls-cores·cores·flush-core (core-met.met 𝓤 H 𝓜 𝓖 𝓡))
-    (cited 𝓤 H (Part (core .out) bool (core .clears-of) 𝓤 H (𝓖 .A)) 𝓜 𝓡 code.env clears-def.name clears-def.routine code.calls-cores·outs·cut-of-flush (clears-met.met 𝓤 H 𝓜 𝓖 𝓡))
+    (cited 𝓤 H (Part (core .out) bool (core .clears-of) 𝓤 H (𝓖 .A)) 𝓜 𝓡 code.env clears-def.name clears-def.routine code.calls-cores·outs·clears-of-flush (clears-met.met 𝓤 H 𝓜 𝓖 𝓡))
     (cited 𝓤 H (Clear 𝓤 H (𝓖 .A) (𝓜 .mem) (𝓡 .run)) 𝓜 𝓡 code.env clear-def.name clear-def.routine code.calls-store·table·clear (clear-met.met 𝓤 H 𝓜 𝓖 𝓡))
     (cited 𝓤 H (Part (core .out) (call .result .row) (core .result-of) 𝓤 H (𝓖 .A)) 𝓜 𝓡 code.env result-def.name result-def.routine code.calls-cores·outs·result-of-flush (result-met.met 𝓤 H 𝓜 𝓖 𝓡)))
