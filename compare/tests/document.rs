@@ -7,10 +7,11 @@ use compare::cases::text::TEXT;
 use compare::cases::twelve::TWELVE;
 use compare::cover::Cover;
 use compare::paper::Paper;
+use compare::proved::{relog, ProvedStore};
 use compare::runfile::{example, parse, run, write};
 
 fn play(cases: &[Case]) {
-    let makers: [Maker; 1] = [|| Box::new(FastStore::new())];
+    let makers: [Maker; 2] = [|| Box::new(FastStore::new()), || Box::new(ProvedStore::new())];
     for case in cases {
         let mut cover = Cover::default();
         let mut arena = Arena::new(&makers, &mut cover);
@@ -57,6 +58,8 @@ fn lines_of_the_example() {
         let file = write(&example(fuse));
         assert_eq!(run(&file, &mut Paper::new()), lines);
         assert_eq!(run(&file, &mut FastStore::new()), lines);
+        assert_eq!(run(&file, &mut ProvedStore::new()), lines);
+        assert_eq!(relog(&file), lines);
     }
 }
 
@@ -102,6 +105,7 @@ fn run_files_that_give_15() {
     ];
     for file in wrong {
         assert_eq!(run(&file, &mut Paper::new()), "15\n", "{file:?}");
+        assert_eq!(relog(&file), "15\n", "{file:?}");
     }
 }
 
@@ -112,9 +116,11 @@ fn run_files_at_their_limits() {
     // 1 + 8 + 681 * 6 = 4,095 bytes; 32 sessions without calls.
     let longest = vec![Session { fuse: None, calls: vec![Call::Begin; 681] }];
     let lines = run(&write(&longest), &mut Paper::new());
+    assert_eq!(relog(&write(&longest)), lines);
     assert_eq!(lines.lines().count(), 682);
     assert!(lines.contains("\n1 16 0 16\n1 17 7 0\n"));
     let many = vec![Session { fuse: Some(0), calls: vec![] }; 32];
     let lines = run(&write(&many), &mut Paper::new());
+    assert_eq!(relog(&write(&many)), lines);
     assert!(lines.ends_with("\n32 0 0 0\n"));
 }

@@ -1,6 +1,6 @@
-pub mod CallBytes
-pub mod Bodies
-pub mod RunFiles
-pub mod Writings
-pub mod Decimals
-mod Signs
+pub mod Steps
+pub mod Along
+pub mod Turns
+pub mod Sessions
+pub mod Outcome
+pub mod Example

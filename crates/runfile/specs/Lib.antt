@@ -1,5 +1,2 @@
-pub mod File
-pub mod Fields
-pub mod Lines
-pub mod Output
 pub mod Runs
+pub mod Play

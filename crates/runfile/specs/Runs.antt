@@ -6,8 +6,8 @@ use lib.IntN.{ℤ, pos}
 use Rattle.book.specs.Power.{Book, formatted}
 use Rattle.book.specs.Book.{Answer}
 use Rattle.book.specs.Events.{Event, opens, calls, answers, bookAfter}
-use Rattle.runfile.specs.File.{Asked, isRunFile, sessionsIn}
-use Rattle.runfile.specs.Lines.{line, faultLine}
+use Rattle.run_reader.specs.File.{Asked, isRunFile, sessionsIn}
+use Rattle.run_lines.specs.Lines.{line, faultLine}
 
 -- 01: relog formats zeros
 abbrev pub zeros : ℕ → ℤ

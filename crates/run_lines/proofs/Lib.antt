@@ -1,0 +1,3 @@
+pub mod Writings
+pub mod Decimals
+pub mod Signs

@@ -1,0 +1,157 @@
+-- Six bytes as a call: the fields that are to be zero for each code, and the call that they are. Assumes nothing.
+use mathlib.Core.Path.{_≡_, refl, ap, sym, _∙_}
+use mathlib.Core.Logic.{_⊎_, ⊎-elim}
+use mathlib.Core.Bool.{Bool, true, false, _&&_}
+use mathlib.Core.List.{List}
+use Prim.Native.Nat.{ℕ, zero, suc, _+_, _/_, _%_, _≤_, _<_}
+use native.Mathlib.Omega.{arith}
+use native.Mathlib.Nat.{add-zero, zero-add}
+use lib.ListN.{length, getD, take, drop}
+use lib.Seq.{drop-cons}
+use lib.IntN.{ℤ}
+use lib.Dec.{eqb}
+use borrow.Author.Tests.{eqb-true, eqb-false, eq-eqb, ne-eqb}
+use Rattle.book.specs.Lists.{eqBytes}
+use Rattle.book.specs.Calls.{Call}
+use Rattle.book.specs.Numbers.{number, bitsOf, signed}
+use Rattle.book.proofs.Numbers.{two-bytes, two-back, two-below, bits-signed}
+use Rattle.run_reader.specs.File.{fields, callBytes, callOfCode, callAt, isCallAt}
+use Rattle.run_reader.specs.Fields.{isCall}
+
+-- ── The bytes that are to be zero ─────────────────────────────────────────────────────────────────────────────────────
+
+-- numbers are zero exactly if their sum is
+both-zero : (a b : ℕ) → (eqb 0 a && eqb b 0) ≡ eqb (b + a) 0
+both-zero a b = go (eqb 0 a) refl
+  where
+    go : (t : Bool) → eqb 0 a ≡ t → (t && eqb b 0) ≡ eqb (b + a) 0
+    go true q = rw (← (eqb-true 0 a q), add-zero b)
+    go false q = sym (ne-eqb (b + a) 0 (λ e. eqb-false 0 a q (omega arith)))
+
+zero-last : (a : ℕ) → (eqb 0 a && true) ≡ eqb a 0
+zero-last a = both-zero a 0 ∙ ap (λ (n : ℕ). eqb n 0) (zero-add a)
+
+-- a number is zero exactly if its two bytes are
+zero-bytes : (x : ℕ) → x < 65536 → (eqb 0 (x % 256) && (eqb 0 (x / 256 % 256) && true)) ≡ eqb x 0
+zero-bytes x below = rw (zero-last (x / 256 % 256), both-zero (x % 256) (x / 256 % 256)) (go (eqb x 0) refl)
+  where
+    go : (t : Bool) → eqb x 0 ≡ t → eqb (x / 256 % 256 + x % 256) 0 ≡ t
+    go true q = eq-eqb (x / 256 % 256 + x % 256) 0 (omega (arith, eqb-true x 0 q))
+    go false q = ne-eqb (x / 256 % 256 + x % 256) 0 (λ e. eqb-false x 0 q (omega (arith, two-bytes x below)))
+
+same : (n : ℕ) → eqb n n ≡ true
+same n = eq-eqb n n refl
+
+-- by the code k: visit v, receiver r, cell or page c, and the change's bits x
+module _ (k v r c x : ℕ) (below : x < 65536) where
+  abbrev change : ℤ
+  change = signed 16 x
+
+  -- begin, force
+  pub none-used : (k ≡ 1) ⊎ (k ≡ 7) → eqb (x + c + r + v) 0 ≡ isCall k v r c change
+  unfolding callBytes
+  none-used h = ⊎-elim (λ e. rw e (sym go)) (λ e. rw e (sym go)) h
+    where
+      go : (eqb 0 v && (eqb 0 r && (eqb 0 c && (eqb 0 (bitsOf 16 change % 256) && (eqb 0 (bitsOf 16 change / 256 % 256) && true))))) ≡ eqb (x + c + r + v) 0
+      go = rw (bits-signed 16 x below, zero-bytes x below, both-zero c x, both-zero r (x + c), both-zero v (x + c + r))
+
+  pub changes : k ≡ 2 → eqb r 0 ≡ isCall k v r c change
+  unfolding callBytes
+  changes e = rw (e, bits-signed 16 x below, same v, same c, same (x % 256), same (x / 256 % 256), zero-last r)
+
+  pub hands-over : k ≡ 3 → eqb x 0 ≡ isCall k v r c change
+  unfolding callBytes
+  hands-over e = rw (e, bits-signed 16 x below, same v, same r, same c, zero-bytes x below)
+
+  -- commit, abort
+  pub ends : (k ≡ 4) ⊎ (k ≡ 5) → eqb (x + c + r) 0 ≡ isCall k v r c change
+  unfolding callBytes
+  ends h = ⊎-elim (λ e. rw e (sym go)) (λ e. rw e (sym go)) h
+    where
+      go : (eqb v v && (eqb 0 r && (eqb 0 c && (eqb 0 (bitsOf 16 change % 256) && (eqb 0 (bitsOf 16 change / 256 % 256) && true))))) ≡ eqb (x + c + r) 0
+      go = rw (bits-signed 16 x below, zero-bytes x below, both-zero c x, both-zero r (x + c), same v)
+
+  -- flush, read
+  pub cell-used : (k ≡ 6) ⊎ (k ≡ 8) → eqb (x + r + v) 0 ≡ isCall k v r c change
+  unfolding callBytes
+  cell-used h = ⊎-elim (λ e. rw e (sym go)) (λ e. rw e (sym go)) h
+    where
+      go : (eqb 0 v && (eqb 0 r && (eqb c c && (eqb 0 (bitsOf 16 change % 256) && (eqb 0 (bitsOf 16 change / 256 % 256) && true))))) ≡ eqb (x + r + v) 0
+      go = rw (bits-signed 16 x below, zero-bytes x below, same c, both-zero r x, both-zero v (x + r))
+
+-- any other code
+pub no-code : (k v r c : ℕ) (a : ℤ) → (k ≡ 1 → ⊥) → (k ≡ 2 → ⊥) → (k ≡ 3 → ⊥) → (k ≡ 4 → ⊥) → (k ≡ 5 → ⊥) → (k ≡ 6 → ⊥) → (k ≡ 7 → ⊥) → (k ≡ 8 → ⊥)
+    → false ≡ isCall k v r c a
+unfolding callBytes
+no-code zero v r c a h1 h2 h3 h4 h5 h6 h7 h8 = refl
+no-code (suc zero) v r c a h1 h2 h3 h4 h5 h6 h7 h8 = absurd (h1 refl)
+no-code (suc (suc zero)) v r c a h1 h2 h3 h4 h5 h6 h7 h8 = absurd (h2 refl)
+no-code (suc (suc (suc zero))) v r c a h1 h2 h3 h4 h5 h6 h7 h8 = absurd (h3 refl)
+no-code (suc (suc (suc (suc zero)))) v r c a h1 h2 h3 h4 h5 h6 h7 h8 = absurd (h4 refl)
+no-code (suc (suc (suc (suc (suc zero))))) v r c a h1 h2 h3 h4 h5 h6 h7 h8 = absurd (h5 refl)
+no-code (suc (suc (suc (suc (suc (suc zero)))))) v r c a h1 h2 h3 h4 h5 h6 h7 h8 = absurd (h6 refl)
+no-code (suc (suc (suc (suc (suc (suc (suc zero))))))) v r c a h1 h2 h3 h4 h5 h6 h7 h8 = absurd (h7 refl)
+no-code (suc (suc (suc (suc (suc (suc (suc (suc k)))))))) v r c a h1 h2 h3 h4 h5 h6 h7 h8 =
+    rw (ne-eqb 8 (suc (suc (suc (suc (suc (suc (suc (suc k)))))))) (λ e. h8 (sym e)))
+
+-- ── At a place of the file ────────────────────────────────────────────────────────────────────────────────────────────
+
+-- the six bytes from `at` on are the fields of what is read there
+six-bytes : (bs : List ℕ) (at : ℕ) → at + 6 ≤ length bs → ((i : ℕ) → getD bs i 0 < 256)
+    → fields (getD bs at 0) (getD bs (at + 1) 0) (getD bs (at + 2) 0) (getD bs (at + 3) 0) (signed 16 (number 2 bs (at + 4))) ≡ take 6 (drop at bs)
+six-bytes bs at h byte =
+    let i1 = suc at in
+    let i2 = suc i1 in
+    let i3 = suc i2 in
+    let i4 = suc i3 in
+    let i5 = suc i4 in
+    let e1 : at + 1 ≡ i1 = omega arith in
+    let e2 : at + 2 ≡ i2 = omega arith in
+    let e3 : at + 3 ≡ i3 = omega arith in
+    let e4 : at + 4 ≡ i4 = omega arith in
+    rw (
+      e1,
+      e2,
+      e3,
+      e4,
+      bits-signed 16 (number 2 bs i4) (two-below (getD bs i4 0) (getD bs i5 0) (byte i4) (byte i5)),
+      two-back (getD bs i4 0) (getD bs i5 0) (byte i4) (byte i5),
+      drop-cons bs at 0 (omega arith),
+      drop-cons bs i1 0 (omega arith),
+      drop-cons bs i2 0 (omega arith),
+      drop-cons bs i3 0 (omega arith),
+      drop-cons bs i4 0 (omega arith),
+      drop-cons bs i5 0 (omega arith),
+    )
+
+pub call-at-place : (bs : List ℕ) (at : ℕ) → at + 6 ≤ length bs → ((i : ℕ) → getD bs i 0 < 256) → (x : ℕ) → x ≡ number 2 bs (at + 4)
+    → isCall (getD bs at 0) (getD bs (at + 1) 0) (getD bs (at + 2) 0) (getD bs (at + 3) 0) (signed 16 x) ≡ isCallAt bs at
+unfolding isCallAt callAt
+call-at-place bs at h byte x e = rw e (ap (eqBytes (callBytes (callAt bs at))) (six-bytes bs at h byte))
+
+-- ── The call of a code ────────────────────────────────────────────────────────────────────────────────────────────────
+
+-- the call of code k with the fields that the bytes hold
+abbrev callAs : ℕ → List ℕ → ℕ → Call
+callAs k bs at = callOfCode k (getD bs (at + 1) 0) (getD bs (at + 2) 0) (getD bs (at + 3) 0) (signed 16 (number 2 bs (at + 4)))
+
+pub of-code : (bs : List ℕ) (at k : ℕ) → getD bs at 0 ≡ k → callAs k bs at ≡ callAt bs at
+unfolding callAt
+of-code bs at k e = rw e
+
+rest : (k v r c : ℕ) (a : ℤ) → (k ≡ 0 → ⊥) → (k ≡ 1 → ⊥) → (k ≡ 2 → ⊥) → (k ≡ 3 → ⊥) → (k ≡ 4 → ⊥) → (k ≡ 5 → ⊥) → (k ≡ 6 → ⊥) → (k ≡ 7 → ⊥)
+    → Call.read c ≡ callOfCode k v r c a
+rest zero v r c a h0 h1 h2 h3 h4 h5 h6 h7 = absurd (h0 refl)
+rest (suc zero) v r c a h0 h1 h2 h3 h4 h5 h6 h7 = absurd (h1 refl)
+rest (suc (suc zero)) v r c a h0 h1 h2 h3 h4 h5 h6 h7 = absurd (h2 refl)
+rest (suc (suc (suc zero))) v r c a h0 h1 h2 h3 h4 h5 h6 h7 = absurd (h3 refl)
+rest (suc (suc (suc (suc zero)))) v r c a h0 h1 h2 h3 h4 h5 h6 h7 = absurd (h4 refl)
+rest (suc (suc (suc (suc (suc zero))))) v r c a h0 h1 h2 h3 h4 h5 h6 h7 = absurd (h5 refl)
+rest (suc (suc (suc (suc (suc (suc zero)))))) v r c a h0 h1 h2 h3 h4 h5 h6 h7 = absurd (h6 refl)
+rest (suc (suc (suc (suc (suc (suc (suc zero))))))) v r c a h0 h1 h2 h3 h4 h5 h6 h7 = absurd (h7 refl)
+rest (suc (suc (suc (suc (suc (suc (suc (suc k)))))))) v r c a h0 h1 h2 h3 h4 h5 h6 h7 = refl
+
+pub of-rest : (bs : List ℕ) (at : ℕ) → let k = getD bs at 0 in
+    (k ≡ 0 → ⊥) → (k ≡ 1 → ⊥) → (k ≡ 2 → ⊥) → (k ≡ 3 → ⊥) → (k ≡ 4 → ⊥) → (k ≡ 5 → ⊥) → (k ≡ 6 → ⊥) → (k ≡ 7 → ⊥)
+    → Call.read (getD bs (at + 3) 0) ≡ callAt bs at
+of-rest bs at h0 h1 h2 h3 h4 h5 h6 h7 = rest (getD bs at 0) _ _ _ _ h0 h1 h2 h3 h4 h5 h6 h7 ∙ of-code bs at (getD bs at 0) refl

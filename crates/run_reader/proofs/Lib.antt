@@ -1,0 +1,3 @@
+pub mod CallBytes
+pub mod Bodies
+pub mod RunFiles

@@ -1,0 +1,10 @@
+-- The test of a call's 6 bytes by their fields, as the reader makes it.
+use Prim.Native.Nat.{ℕ}
+use mathlib.Core.Bool.{Bool}
+use lib.IntN.{ℤ}
+use Rattle.book.specs.Lists.{eqBytes}
+use Rattle.run_reader.specs.File.{fields, callBytes, callOfCode}
+
+-- code, visit, receiver, cell or page, change: those of a call
+abbrev pub isCall : ℕ → ℕ → ℕ → ℕ → ℤ → Bool
+isCall k v r c a = eqBytes (callBytes (callOfCode k v r c a)) (fields k v r c a)

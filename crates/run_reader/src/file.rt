@@ -1,0 +1,200 @@
+// The reader of run files (document 01, "The run file"): which bytes are one, and the entries and calls in it.
+// Lengths are tested before what lies in them, so no byte beyond the end is read, whatever the file.
+ghost use mathlib.Core.Path.{_≡_};
+ghost use Prim.Native.Nat.{_+_, _*_, _≤_};
+ghost use lib.ListN.{length};
+ghost use Rattle.book.specs.Numbers.{number, signed as signedOf};
+ghost use Rattle.state.specs.World.{allowance};
+ghost use Rattle.calls_model.specs.Requests.{callOf};
+ghost use Rattle.run_reader.specs.Fields.{isCall};
+ghost use Rattle.run_reader.specs.File.{callAt, isCallAt, areCalls, entryAt, fuseAt, startAt, callsAt, areBodies, isRunFile};
+use calls_model::Request;
+use rows::Cell;
+use rows::Visit;
+use rows::numbers::index;
+use rows::numbers::signed;
+use rows::numbers::wide;
+use rows::numbers::word;
+use state::arguments::ChangeArgs;
+use state::arguments::EndArgs;
+use state::arguments::FlushArgs;
+use state::arguments::HandOverArgs;
+use state::arguments::ReadArgs;
+use state::ram::Fuse;
+
+// The number in two bytes.
+fn read16(file: &[u8], at: usize) -> u16
+    requires { ⌜ at + 2 ≤ length (now file) ⌝ }
+    ensures { λ r. ⌜ r ≡ number 2 (now (file .entry)) at ⌝ }
+{
+    word(file[at], file[at + 1])
+}
+
+// The number in four bytes.
+fn read32(file: &[u8], at: usize) -> u32
+    requires { ⌜ at + 4 ≤ length (now file) ⌝ }
+    ensures { λ r. ⌜ r ≡ number 4 (now (file .entry)) at ⌝ }
+{
+    let low = read16(file, at);
+    let high = read16(file, at + 2);
+    low as u32 + 65536 * (high as u32)
+}
+
+// The fuse of entry i.
+pub fn fuse_at(file: &[u8], i: usize) -> Fuse
+    requires { ⌜ entryAt i + 8 ≤ length (now file) ⌝ }
+    ensures { λ r. ⌜ allowance r ≡ fuseAt (now (file .entry)) i ⌝ }
+{
+    let writes = read32(file, 1 + 8 * i);
+    if writes == 4294967295 {
+        Fuse::Unlimited
+    } else {
+        Fuse::Left(writes)
+    }
+}
+
+// Where entry i says that its body starts.
+fn start_at(file: &[u8], i: usize) -> usize
+    requires { ⌜ entryAt i + 8 ≤ length (now file) ⌝ }
+    ensures { λ r. ⌜ r ≡ startAt (now (file .entry)) i ⌝ }
+{
+    read16(file, 1 + 8 * i + 4) as usize
+}
+
+// The number of calls of entry i.
+pub fn calls_at(file: &[u8], i: usize) -> usize
+    requires { ⌜ entryAt i + 8 ≤ length (now file) ⌝ }
+    ensures { λ r. ⌜ r ≡ callsAt (now (file .entry)) i ⌝ }
+{
+    read16(file, 1 + 8 * i + 6) as usize
+}
+
+// The call that the 6 bytes from `at` on would be, by their code, whatever the others are.
+pub fn call_at(file: &[u8], at: usize) -> Request
+    requires { ⌜ at + 6 ≤ length (now file) ⌝ }
+    ensures { λ r. ⌜ callOf r ≡ callAt (now (file .entry)) at ⌝ }
+{
+    let visit = Visit(wide(file[at + 1]));
+    let cell = Cell(file[at + 3]);
+    match file[at] {
+        0 => Request::Begin,
+        1 => Request::Begin,
+        2 => Request::Change(ChangeArgs {
+            visit,
+            cell,
+            amount: signed(read16(file, at + 4)),
+        }),
+        3 => Request::HandOver(HandOverArgs {
+            giver: visit,
+            receiver: Visit(wide(file[at + 2])),
+            cell,
+        }),
+        4 => Request::Commit(EndArgs { visit }),
+        5 => Request::Abort(EndArgs { visit }),
+        6 => Request::Flush(FlushArgs { page: file[at + 3] }),
+        7 => Request::Force,
+        _ => Request::Read(ReadArgs { cell }),
+    }
+}
+
+// The fields of 6 bytes are those of a call: a known code, and the fields that it does not use are zero, so that their sum is.
+fn is_call(code: u8, visit: u8, receiver: u8, cell: u8, change: u16) -> bool
+    ensures { λ r. ⌜ r ≡ isCall code visit receiver cell (signedOf 16 change) ⌝ }
+{
+    let n = change as u32;
+    let c = cell as u32;
+    let r = receiver as u32;
+    let v = visit as u32;
+    match code {
+        1 => n + c + r + v == 0,
+        2 => r == 0,
+        3 => n == 0,
+        4 => n + c + r == 0,
+        5 => n + c + r == 0,
+        6 => n + r + v == 0,
+        7 => n + c + r + v == 0,
+        8 => n + r + v == 0,
+        _ => false,
+    }
+}
+
+// The 6 bytes from `at` on are a call.
+fn is_call_at(file: &[u8], at: usize) -> bool
+    requires { ⌜ at + 6 ≤ length (now file) ⌝ }
+    ensures { λ r. ⌜ r ≡ isCallAt (now (file .entry)) at ⌝ }
+{
+    is_call(
+        file[at],
+        file[at + 1],
+        file[at + 2],
+        file[at + 3],
+        read16(file, at + 4),
+    )
+}
+
+// n calls stand from `at` on.
+fn are_calls(file: &[u8], at: usize, n: usize) -> bool
+    requires { ⌜ at + 6 * n ≤ length (now file) ⌝ }
+    ensures { λ r. ⌜ r ≡ areCalls n (now (file .entry)) at ⌝ }
+{
+    let mut here = at;
+    let mut left = n;
+    while 0 < left {
+        if is_call_at(file, here) {
+            here += 6;
+            left -= 1;
+        } else {
+            return false;
+        }
+    }
+    true
+}
+
+// The bodies of the entries stand from the end of the entries on, without gaps, in order, to the end of the file.
+fn are_bodies(file: &[u8], sessions: usize) -> bool
+    requires { ⌜ entryAt sessions ≤ length (now file) ⌝ }
+    ensures { λ r. ⌜ r ≡ areBodies sessions 0 (entryAt sessions) (now (file .entry)) ⌝ }
+{
+    let mut at = 1 + 8 * sessions;
+    let mut i: usize = 0;
+    while i < sessions {
+        if start_at(file, i) != at {
+            return false;
+        }
+        let n = calls_at(file, i);
+        if (file.len() - at) / 6 < n {
+            return false;
+        }
+        if are_calls(file, at, n) {
+            at += 6 * n;
+            i += 1;
+        } else {
+            return false;
+        }
+    }
+    at == file.len()
+}
+
+// The bytes are a run file.
+pub fn is_run_file(file: &[u8]) -> bool
+    ensures { λ r. ⌜ r ≡ isRunFile (now (file .entry)) ⌝ }
+{
+    let length = file.len();
+    if 4096 < length {
+        return false;
+    }
+    if length == 0 {
+        return false;
+    }
+    let sessions = index(file[0]);
+    if sessions == 0 {
+        return false;
+    }
+    if 32 < sessions {
+        return false;
+    }
+    if length < 1 + 8 * sessions {
+        return false;
+    }
+    are_bodies(file, sessions)
+}

@@ -1,0 +1,40 @@
+-- Document 01's whole example, with fuse 3 and with fuse 6, computed by the definitions of specs/: its bytes are a run file, and the lines are 01's.
+use Prim.Native.Nat.{ℕ, _+_}
+use mathlib.Core.Path.{_≡_, refl}
+use mathlib.Core.Bool.{true}
+use mathlib.Core.List.{List, [], _∷_, _++_}
+use Rattle.book.specs.Ledger.{after}
+use Rattle.book.specs.Rules.{reserve, scopesInUse}
+use Rattle.book.specs.Power.{force, add}
+use Rattle.book.specs.Book.{takeBack, refusal, adds, through, value, accepted, call, reopened, reopen, opening}
+use Rattle.book.specs.Pages.{pageAfter}
+use Rattle.run_reader.specs.File.{callBytes, callAt, isCallAt, isRunFile}
+use Rattle.run_lines.specs.Lines.{decimal, signedDecimal, line}
+use Rattle.runfile.specs.Runs.{linesOf}
+
+-- session 1 with a fuse below 256: begin, begin, visit 1 adds -200 to cell 0, hands it to 2, abort 1, commit 2; session 2 with no fuse: read 0
+abbrev file : ℕ → List ℕ
+file fuse =
+    (2 ∷ []) ++ (fuse ∷ 0 ∷ 0 ∷ 0 ∷ 17 ∷ 0 ∷ 6 ∷ 0 ∷ []) ++ (255 ∷ 255 ∷ 255 ∷ 255 ∷ 53 ∷ 0 ∷ 1 ∷ 0 ∷ []) ++ (1 ∷ 0 ∷ 0 ∷ 0 ∷ 0 ∷ 0 ∷ []) ++
+    (1 ∷ 0 ∷ 0 ∷ 0 ∷ 0 ∷ 0 ∷ []) ++ (2 ∷ 1 ∷ 0 ∷ 0 ∷ 56 ∷ 255 ∷ []) ++ (3 ∷ 1 ∷ 2 ∷ 0 ∷ 0 ∷ 0 ∷ []) ++ (5 ∷ 1 ∷ 0 ∷ 0 ∷ 0 ∷ 0 ∷ []) ++
+    (4 ∷ 2 ∷ 0 ∷ 0 ∷ 0 ∷ 0 ∷ []) ++ (8 ∷ 0 ∷ 0 ∷ 0 ∷ 0 ∷ 0 ∷ [])
+
+-- a line of four digits
+abbrev digits : ℕ → ℕ → ℕ → ℕ → List ℕ
+digits a b c d = (48 + a) ∷ 32 ∷ (48 + b) ∷ 32 ∷ (48 + c) ∷ 32 ∷ (48 + d) ∷ 10 ∷ []
+
+-- the lines that do not hang on the fuse
+abbrev first : List ℕ
+first = digits 1 0 0 0 ++ digits 1 1 0 1 ++ digits 1 2 0 2 ++ digits 1 3 0 3 ++ digits 1 4 0 4 ++ digits 1 5 0 5
+
+pub record Example : Type 0 where
+  pub file-3 : isRunFile (file 3) ≡ true
+  pub fuse-3 : linesOf (file 3) ≡ first ++ digits 1 6 5 0 ++ digits 2 0 0 3 ++ digits 2 1 0 0
+  pub file-6 : isRunFile (file 6) ≡ true
+  -- the last line is `2 1 0 -200`
+  pub fuse-6 : linesOf (file 6) ≡ first ++ digits 1 6 0 6 ++ digits 2 0 0 0 ++ (50 ∷ 32 ∷ 49 ∷ 32 ∷ 48 ∷ 32 ∷ 45 ∷ 50 ∷ 48 ∷ 48 ∷ 10 ∷ [])
+
+pub example : Example
+unfolding isRunFile isCallAt callAt callBytes linesOf line decimal signedDecimal after reserve scopesInUse force add takeBack refusal adds through value
+    accepted call reopened reopen opening pageAfter
+example = record { file-3 = refl; fuse-3 = refl; file-6 = refl; fuse-6 = refl }

@@ -1,0 +1,124 @@
+-- One call, one opening and the format, on a store that stands for a book of zeros: answer and store are the book's.
+use Prim.Native.Nat.{ℕ, zero, suc, _+_, _-_, _*_, _^_}
+use native.Mathlib.Omega.{arith}
+use mathlib.Core.Path.{_≡_, refl, ap, sym, _∙_, subst}
+use mathlib.Core.Bool.{Bool, true, false, cond}
+use mathlib.Core.List.{List}
+use lib.ListN.{length, getD, replicate}
+use lib.IntN.{ℤ, pos, negsuc}
+use lib.Dec.{ltb}
+use borrow.Author.Tests.{ltb-true, ltb-false, le-leb}
+use Rattle.book.specs.Limits.{logLength, chartsLength, cellLimit}
+use Rattle.book.specs.Calls.{Typed}
+use Rattle.book.specs.Rows.{isAmount}
+use Rattle.book.specs.Power.{Book, Fuse, formatted}
+use Rattle.book.specs.Book.{Answer, opening}
+use Rattle.book.specs.Events.{Event, opens, calls, happens}
+use Rattle.book.specs.LogBytes.{logBytes}
+use Rattle.book.specs.Numbers.{number, signed}
+use Rattle.book.proofs.Sound.{sound-opening, stored-allowed}
+use Rattle.book.proofs.Claims.{grows-open}
+use Rattle.book.proofs.Pages.{Bounded}
+use Rattle.state.specs.World.{World, rightLengths, worldOf, Represents}
+use Rattle.state.specs.Contracts.{Result, byBook, cellsOf, formats, CallPost, OpenPost, FormatPost}
+use Rattle.state.proofs.Lengths.{represented-lengths}
+use Rattle.state.proofs.StoredCharts.{charts-kept}
+use Rattle.state.proofs.OpenedStores.{byOpening, opens-book, charts-accepted}
+use Rattle.state.proofs.Kept.{kept, represents-world}
+use Rattle.state.proofs.FormattedStores.{formatted-store}
+use Rattle.state.specs.declared.ram.State.{State}
+use Rattle.state.specs.declared.ram.Scope.{Scope}
+use Rattle.cores.specs.Lent.{world, blanks}
+use Rattle.sessions.proofs.Held.{represents}
+use Rattle.sessions.proofs.Demand.{held-formatted}
+use Rattle.run_reader.specs.File.{callOfCode, callAt}
+use Rattle.runfile.specs.Runs.{zeros}
+
+small : Bounded 1000000 zeros
+small c = omega arith
+
+-- what an event comes to: the book's answer, and a store that stands for the book after it
+pub record Answers (b : Book) (e : Event) (a : Answer) (leaves : World) : Type 0 where
+  pub answer : a ≡ happens zeros b e .answer
+  pub stands : Represents zeros (happens zeros b e .book) leaves
+
+-- ── A call ────────────────────────────────────────────────────────────────────────────────────────────────────────────
+
+amount : (x : ℕ) → isAmount (signed 16 x) ≡ true
+amount x = go (ltb (2 * x) (2 ^ 16)) refl
+  where
+    go : (t : Bool) → ltb (2 * x) (2 ^ 16) ≡ t → isAmount (cond t (pos x) (negsuc (2 ^ 16 - suc x))) ≡ true
+    go true e = let k = ltb-true (2 * x) (2 ^ 16) e in le-leb x 32767 (omega arith)
+    go false e = let k = ltb-false (2 * x) (2 ^ 16) e in rw (le-leb (2 ^ 16 - suc x) 32767 (omega arith))
+
+typed-code : (n v r c : ℕ) (a : ℤ) → isAmount a ≡ true → Typed (callOfCode n v r c a)
+typed-code zero v r c a h = tt
+typed-code (suc zero) v r c a h = tt
+typed-code (suc (suc zero)) v r c a h = rw h tt
+typed-code (suc (suc (suc zero))) v r c a h = tt
+typed-code (suc (suc (suc (suc zero)))) v r c a h = tt
+typed-code (suc (suc (suc (suc (suc zero))))) v r c a h = tt
+typed-code (suc (suc (suc (suc (suc (suc zero)))))) v r c a h = tt
+typed-code (suc (suc (suc (suc (suc (suc (suc zero))))))) v r c a h = tt
+typed-code (suc (suc (suc (suc (suc (suc (suc (suc n)))))))) v r c a h = tt
+
+-- a run file's change is a signed 16-bit number
+typed-call : (bs : List ℕ) (at : ℕ) → Typed (callAt bs at)
+unfolding callAt
+typed-call bs at =
+    let x = number 2 bs (at + 4) in
+    typed-code (getD bs at 0) (getD bs (at + 1) 0) (getD bs (at + 2) 0) (getD bs (at + 3) 0) (signed 16 x) (amount x)
+
+pub call-answers : (b : Book) (bs : List ℕ) (at : ℕ) (given leaves : World) (a : Answer) → Represents zeros b given
+    → CallPost (callAt bs at) given a leaves → Answers b (calls true (callAt bs at)) a leaves
+unfolding byBook
+call-answers b bs at given leaves a r post = record {
+  answer = ap (λ (x : Result). x .answer) (post .is (represented-lengths zeros b given r) zeros b r);
+  stands = kept zeros b (callAt bs at) given leaves a r (typed-call bs at) post;
+}
+
+-- ── An opening ────────────────────────────────────────────────────────────────────────────────────────────────────────
+
+stored-log : (b : Book) (w : World) → Represents zeros b w → w .log ≡ logBytes (b .stored)
+unfolding worldOf
+stored-log b w r = ap (λ (x : World). x .log) (r .is)
+
+pub open-answers : (b : Book) (f : Fuse) (given leaves : World) (a : Answer) → Represents zeros b given → OpenPost f given a leaves
+    → Answers b (opens true f) a leaves
+unfolding opening
+open-answers b f given leaves a r post =
+    let al = stored-allowed b (r .sound) in
+    let good = charts-accepted zeros 1000000 small (b .stored) al (omega arith) (given .charts) (r .charts) in
+    let is : record { answer = a; world = leaves } ≡ byOpening zeros (given .charts) (opening b true f) = post .is ∙
+    opens-book zeros 1000000 small (b .stored) al (omega arith) f given (represented-lengths zeros b given r) (stored-log b given r) (r .charts) good in
+    record {
+      answer = ap (λ (x : Result). x .answer) is;
+      stands = subst (Represents zeros (opening b true f .book)) (sym (ap (λ (x : Result). x .world) is))
+          (represents-world zeros (opening b true f .book) (given .charts) (r .range) (sound-opening b true f (r .sound))
+          (charts-kept zeros (b .stored) (opening b true f .book .stored) (given .charts) (grows-open b true f) (r .charts)));
+    }
+
+-- ── The format ────────────────────────────────────────────────────────────────────────────────────────────────────────
+
+abbrev zeroCells : List ℤ
+zeroCells = replicate cellLimit (pos 0)
+
+cells-zero : (n c : ℕ) → cellsOf (replicate n (pos 0)) c ≡ pos 0
+cells-zero zero c = refl
+cells-zero (suc n) zero = refl
+cells-zero (suc n) (suc c) = cells-zero n c
+
+format-done : (given : World) → rightLengths given ≡ true → formats zeroCells given .answer .number ≡ 0
+unfolding formats
+format-done given e = rw e
+
+pub right-lengths : (s : State) (log charts copy : List ℕ) (scopes : List Scope) → length log ≡ logLength → length charts ≡ chartsLength
+    → length copy ≡ chartsLength → scopes ≡ blanks → rightLengths (world s log charts copy scopes) ≡ true
+right-lengths s log charts copy scopes l c d e = rw (l, c, d, e)
+
+pub format-stands : (given leaves : World) (a : Answer) → rightLengths given ≡ true → FormatPost zeroCells given a leaves → Represents zeros formatted leaves
+format-stands given leaves a e post =
+    let done : a .number ≡ 0 = ap (λ (r : Result). r .answer .number) (post .is) ∙ format-done given e in
+    let f = formatted-store zeroCells given leaves a post done in
+    let h = held-formatted zeroCells leaves f in
+    subst (λ (cells : ℕ → ℤ). Represents cells formatted leaves) (λ i c. cells-zero cellLimit c i) (represents (cellsOf zeroCells) formatted leaves (f .small) h)

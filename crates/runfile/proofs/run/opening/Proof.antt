@@ -1,0 +1,45 @@
+-- `runfile::run::opening` meets its contract. Assumes nothing.
+use borrow.Author.Needs.{needs}
+use Rattle.state.specs.World.{allowance}
+use Rattle.runfile.proofs.Steps.{open-answers}
+use Rattle.runfile.proofs.Along.{plays-one}
+use Rattle.runfile.proofs.run.opening.Statement.{statement}
+use Rattle.runfile.proofs.run.opening.Tie as tie
+
+start-requires : tie.Need-start-requires
+start-requires c κs = search needs
+
+tell-requires : tie.Need-tell-requires
+tell-requires c κs = search needs
+
+same-length : tie.Need-same-length
+same-length c = search needs
+
+same-length-2 : tie.Need-same-length-2
+same-length-2 c = search needs
+
+same-length-3 : tie.Need-same-length-3
+same-length-3 c = search needs
+
+same-length-4 : tie.Need-same-length-4
+same-length-4 c = search needs
+
+returns : tie.Need-returns
+returns c =
+    let a = c .before .before .before .before .before .before .before .before .before .before .before .before .before .before .before .before .before .before .before .before .args in
+    let post = c .before .before .before .before .before .before .before .before .before .before .start .ensures in
+    let t = c .before .before .tell .ensures in
+    rw (t .2, t .3)
+    (plays-one _ (a .session) 0 _ _ _ (a .point .at) _ _ _ (λ b r. open-answers b (allowance (a .fuse)) _ _ _ r post) (t .0) (t .1))
+
+pub opening-spec : {M : Type 1} → statement M
+opening-spec =
+    tie.close
+    (tie.spec
+    start-requires
+    tell-requires
+    same-length
+    same-length-2
+    same-length-3
+    same-length-4
+    returns)
