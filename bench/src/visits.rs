@@ -3,8 +3,9 @@
 use crate::stores::{done, opened, Charts, Other};
 use crate::timing::{ratio, Clock, Work};
 use compare::proved::Proved;
+use compare::store::Answer;
 
-/// Cells of this many pages are changed.
+/// As many cells as the table has entries.
 const CELLS: u8 = 64;
 
 fn both(name: &str, proved: fn() -> Work, other: fn() -> Work) {
@@ -108,24 +109,21 @@ fn hand_overs<S: Charts>() -> Work {
 }
 
 fn commits<S: Charts>() -> Work {
-    let mut store: S = opened();
-    let mut clock = Clock::default();
-    for visit in 1..=250 {
-        done(store.begin());
-        done(store.change(visit, 3, 7));
-        let row = clock.time(1, || done(store.commit(visit)));
-        clock.note(row);
-    }
-    clock.work()
+    endings(S::commit)
 }
 
 fn small_aborts<S: Charts>() -> Work {
+    endings(S::abort)
+}
+
+/// Visits of one change, and the call that ends them.
+fn endings<S: Charts>(end: fn(&mut S, u16) -> Answer) -> Work {
     let mut store: S = opened();
     let mut clock = Clock::default();
     for visit in 1..=250 {
         done(store.begin());
         done(store.change(visit, 3, 7));
-        let row = clock.time(1, || done(store.abort(visit)));
+        let row = clock.time(1, || done(end(&mut store, visit)));
         clock.note(row);
     }
     clock.work()
