@@ -1,14 +1,14 @@
 -- The checks of a call in their order, and what is left after it, by what the functions have found. Assumes nothing.
 use Prim.Native.Nat.{ℕ, zero, suc, _+_, _≤_}
-use mathlib.Core.Path.{_≡_, refl}
+use mathlib.Core.Path.{_≡_, refl, ap, sym, _∙_}
 use mathlib.Core.Bool.{Bool, true, false, cond, not, _&&_}
 use mathlib.Core.List.{List, map}
-use lib.ListN.{length}
+use lib.ListN.{length, replicate}
 use lib.IntN.{ℤ, pos}
 use lib.Dec.{leb, eqb}
-use borrow.Author.Tests.{leb-true, eq-eqb, not-false}
+use borrow.Author.Tests.{leb-true, eqb-true, eq-eqb, not-false}
 use Rattle.book.specs.Calls.{Call}
-use Rattle.book.specs.Scopes.{Scope as Entry}
+use Rattle.book.specs.Scopes.{Scope as Entry, unused}
 use Rattle.book.proofs.Adds.{passes}
 use Rattle.book.proofs.Lists.{and-l, and-r}
 use Rattle.tables_model.specs.declared.Tables.{Tables}
@@ -17,8 +17,8 @@ use Rattle.tables_model.specs.Entries.{entries}
 use Rattle.state.specs.declared.ram.Phase.the-variants.{Open, Closed}
 use Rattle.state.specs.declared.ram.State.{State}
 use Rattle.state.specs.declared.ram.Scope.{Scope}
-use Rattle.state.specs.World.{World, rightLengths, isOpenPhase, cleared}
-use Rattle.state.specs.Contracts.{result}
+use Rattle.state.specs.World.{World, isOpenPhase, scopeOf, cleared}
+use Rattle.state.specs.Contracts.{Result, result}
 use Rattle.journal.specs.declared.Control.{Control}
 use Rattle.calls_model.specs.Acts.{Core, core, acted, valueBy, valueNow}
 use Rattle.calls_model.specs.Refusals.{refusalBy}
@@ -47,14 +47,28 @@ coherent c t e =
 
 -- ── The checks ────────────────────────────────────────────────────────────────────────────────────────────────────────
 
--- a wrong length comes first, whatever the number of entries
-pub wrong-length : (n : ℕ) (w : World) (k : Call) → rightLengths w ≡ false → result 1 (pos 0) w ≡ performedAt n w k
+-- the lengths are right
+pub fit : (log charts copy n : ℕ) → (eqb log 65536 && eqb charts 1024 && eqb copy 1024 && eqb n 64) ≡ true → Lent log charts copy × (n ≡ 64)
+fit log charts copy n e =
+    let x = eqb log 65536 in
+    let y = eqb charts 1024 in
+    let z = eqb copy 1024 in
+    let three = and-l (x && y && z) _ e in
+    let two = and-l (x && y) z three in (
+      record { log-long = eqb-true log 65536 (and-l x y two); charts-long = eqb-true charts 1024 (and-r x y two); copy-long = eqb-true copy 1024 (and-r (x && y) z three) },
+      eqb-true n 64 (and-r (x && y && z) _ e),
+    )
+
+-- one is wrong
+pub not-fit : (n : ℕ) (w : World) (k : Call) → length (w .scopes) ≡ 64
+    → (eqb (length (w .log)) 65536 && eqb (length (w .charts)) 1024 && eqb (length (w .copy)) 1024 && eqb n 64) ≡ false → result 1 (pos 0) w ≡ performedAt n w k
 unfolding performed numberOf
-wrong-length n w k e = go (eqb n 64)
+not-fit n w k long = go (eqb n 64)
   where
-    go : (t : Bool) → result 1 (pos 0) w ≡ cond t (performed w k) (result 1 (pos 0) w)
-    go true = rw e
-    go false = refl
+    go : (t : Bool) → (eqb (length (w .log)) 65536 && eqb (length (w .charts)) 1024 && eqb (length (w .copy)) 1024 && t) ≡ false
+        → result 1 (pos 0) w ≡ cond t (performed w k) (result 1 (pos 0) w)
+    go true e = rw (eq-eqb _ _ long, e)
+    go false e = refl
 
 module _ (c : Control) (t : Tables) (scopes : List Entry) (k : Call) where
   -- the call's own checks
@@ -101,6 +115,16 @@ pub when-accepted : (s : State) (log charts copy : List ℕ) (table : List Scope
     → accepted (core (controlIn s) (s .tables) log charts copy (s .tail) flat) k ≡ decided (world s log charts copy table) k m
 unfolding coreOf
 when-accepted s log charts copy table flat k m e h = rw (h, e)
+
+-- a result with the table that it leaves
+pub but-table : (r : Result) (n : ℕ) (v : ℤ) (s : State) (log charts copy : List ℕ) (table : List Scope)
+    → result n v (world s log charts copy table) ≡ r → result n v (world s log charts copy (r .world .scopes)) ≡ r
+but-table r n v s log charts copy table e = ap (λ (q : Result). result n v (world s log charts copy (q .world .scopes))) (sym e) ∙ e
+
+-- the flat table of all zeros is that of unused entries
+pub blank-entries : entries (replicate 448 0) ≡ map entryIn (replicate 64 (scopeOf unused))
+unfolding entries
+blank-entries = refl
 
 -- ── After an accepted call ────────────────────────────────────────────────────────────────────────────────────────────
 

@@ -1,16 +1,16 @@
 // A call from its checks to what it gives back and leaves, for whatever it is handed. `number_of` and `accept` work in place, on the tail and the flat scope
-// table; `perform` is the same for a caller that has the state and the table by value.
+// table; `perform` is the same for a caller that has the state and the table by value, `perform_free` for one that has no use for the table.
 ghost use mathlib.Core.Path.{_≡_};
 ghost use mathlib.Core.List.{List};
 ghost use Prim.Native.Nat.{ℕ};
 ghost use lib.IntN.{pos};
 ghost use lib.ListN.{length};
-ghost use Rattle.book.specs.Limits.{chartsLength};
+ghost use Rattle.book.specs.Limits.{chartsLength, scopeLimit};
 ghost use Rattle.tables_model.specs.Entries.{flatLength, entries};
 ghost use Rattle.state.specs.Contracts.{result};
 ghost use Rattle.state.specs.World.{cleared};
 ghost use Rattle.calls_model.specs.Acts.{core, Accepts};
-ghost use Rattle.calls_model.specs.Perform.{isCoherent, controlIn, numberBy, accepted, performed, performedAt, world, stateAfter, doneOf, performedOf, Lent};
+ghost use Rattle.calls_model.specs.Perform.{isCoherent, controlIn, numberBy, accepted, performed, performedAt, world, stateAfter, doneOf, performedOf, ComesTo, Lent};
 ghost use Rattle.calls_model.specs.Requests.{callOf};
 use crate::act::act;
 use crate::act::value_of;
@@ -19,8 +19,10 @@ use crate::crossing::table_from;
 use crate::refuse::refuse;
 use calls_model::Done;
 use calls_model::Performed;
+use calls_model::PerformedFree;
 use calls_model::Request;
 use journal::Control;
+use journal::lengths::lengths_fit;
 use journal::writes::clear;
 use state::ram::Fuse;
 use state::ram::Phase;
@@ -196,6 +198,39 @@ fn decide(
     }
 }
 
+// The same on a table of unused entries, whose entries after the call are not given back.
+fn decide_free(
+    state: State,
+    log: &mut [u8],
+    charts: &mut [u8],
+    copy: &mut [u8],
+    request: Request,
+) -> PerformedFree
+    requires { ⌜ Lent (length (now log)) (length (now charts)) (length (now copy)) ⌝ }
+    ensures { λ r. ⌜ ComesTo scopeLimit state (now (log .entry)) (now (charts .entry)) (now (copy .entry)) (callOf request) r
+        (now (log .exit)) (now (charts .exit)) (now (copy .exit)) ⌝ }
+{
+    let mut flat = [0u16; 448];
+    let c = control_of(state);
+    let t = state.tables;
+    let n = number_of(c, t, &flat, request);
+    if n != 0 {
+        return PerformedFree {
+            number: n,
+            value: 0,
+            state: state,
+        };
+    }
+    let mut tail = state.tail;
+    let d = accept(c, t, log, charts, copy, &mut tail, &mut flat, request);
+    let next = new_state(d, tail);
+    PerformedFree {
+        number: d.number,
+        value: d.value,
+        state: next,
+    }
+}
+
 // A request on the lent buffers, of which the scope table has n entries: every check in document 01's order, the lengths first.
 pub fn perform(
     state: State,
@@ -209,17 +244,30 @@ pub fn perform(
     ensures { λ r. ⌜ performedOf r (now (log .exit)) (now (charts .exit)) (now (copy .exit))
         ≡ performedAt n (world state (now (log .entry)) (now (charts .entry)) (now (copy .entry)) table) (callOf request) ⌝ }
 {
-    if log.len() != 65536 {
-        return refused(1, state, table);
-    }
-    if charts.len() != 1024 {
-        return refused(1, state, table);
-    }
-    if copy.len() != 1024 {
-        return refused(1, state, table);
-    }
-    if n != 64 {
+    if !lengths_fit(log.len(), charts.len(), copy.len(), n) {
         return refused(1, state, table);
     }
     decide(state, log, charts, copy, table, request)
+}
+
+// The same for a request that has no use for the scope table.
+pub fn perform_free(
+    state: State,
+    log: &mut [u8],
+    charts: &mut [u8],
+    copy: &mut [u8],
+    n: usize,
+    request: Request,
+) -> PerformedFree
+    ensures { λ r. ⌜ ComesTo n state (now (log .entry)) (now (charts .entry)) (now (copy .entry)) (callOf request) r
+        (now (log .exit)) (now (charts .exit)) (now (copy .exit)) ⌝ }
+{
+    if !lengths_fit(log.len(), charts.len(), copy.len(), n) {
+        return PerformedFree {
+            number: 1,
+            value: 0,
+            state: state,
+        };
+    }
+    decide_free(state, log, charts, copy, request)
 }

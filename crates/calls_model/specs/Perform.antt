@@ -4,9 +4,10 @@ use mathlib.Core.Path.{_≡_}
 use mathlib.Core.Bool.{Bool, cond, not, _&&_}
 use mathlib.Core.List.{List, map}
 use lib.IntN.{ℤ, pos}
+use lib.ListN.{replicate}
 use lib.Dec.{leb, eqb}
 use Rattle.book.specs.Limits.{logLength, chartsLength, rowLimit, tailLimit, activeLimit, scopeLimit}
-use Rattle.book.specs.Scopes.{Scope as Entry}
+use Rattle.book.specs.Scopes.{Scope as Entry, unused}
 use Rattle.book.specs.Calls.{Call}
 use Rattle.book.specs.Book.{_else_}
 use Rattle.tables_model.specs.declared.Tables.{Tables}
@@ -18,6 +19,7 @@ use Rattle.state.specs.Contracts.{Result, result}
 use Rattle.journal.specs.declared.Control.{Control}
 use Rattle.undo.specs.Writing.{isRunning}
 use Rattle.calls_model.specs.declared.Performed.{Performed}
+use Rattle.calls_model.specs.declared.PerformedFree.{PerformedFree}
 use Rattle.calls_model.specs.declared.Done.{Done}
 use Rattle.calls_model.specs.Refusals.{refusalBy}
 use Rattle.calls_model.specs.Acts.{Core, acted, valueBy}
@@ -112,6 +114,16 @@ world s log charts copy table = record { state = s; log = log; charts = charts; 
 -- what the code's struct says, with the buffers beside it
 abbrev pub performedOf : Performed → List ℕ → List ℕ → List ℕ → Result
 performedOf r log charts copy = result (r .number) (r .value) (world (r .state) log charts copy (r .table))
+
+-- the same of a call that has no use for the table, with a table beside it
+abbrev pub freeOf : PerformedFree → List ℕ → List ℕ → List ℕ → List Scope → Result
+freeOf r log charts copy table = result (r .number) (r .value) (world (r .state) log charts copy table)
+
+-- The call on a table of unused entries comes to r, but for the table that it leaves.
+abbrev pub ComesTo : ℕ → State → List ℕ → List ℕ → List ℕ → Call → PerformedFree → List ℕ → List ℕ → List ℕ → Type 0
+ComesTo n s log charts copy k r log′ charts′ copy′ =
+    let given : Result = performedAt n (world s log charts copy (replicate scopeLimit (scopeOf unused))) k in
+    freeOf r log′ charts′ copy′ (given .world .scopes) ≡ given
 
 -- the state by where the journal stands, the tables and the tail
 abbrev pub stateAfter : Control → Tables → List ℕ → State

@@ -31,6 +31,13 @@ pub struct Performed {
     pub table: [Scope; 64],
 }
 
+// The same of a request that has no use for the scope table.
+pub struct PerformedFree {
+    pub number: u8,
+    pub value: i32,
+    pub state: State,
+}
+
 // What a request comes to that works in place: the number and the value, where the journal stands, and the visits.
 pub struct Done {
     pub number: u8,

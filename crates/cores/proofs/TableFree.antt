@@ -190,12 +190,9 @@ and-not : (t : Bool) → (t && not t) ≡ false
 and-not true = refl
 and-not false = refl
 
-module _ {number : ℕ} {v : ℤ} (s : State) (log charts copy : List ℕ) (n : ℕ) (t : List Scope) {k : Call} (free : Free k) (typed : Typed k)
-    (is-blank : t ≡ blanks) (s′ : State) (log′ charts′ copy′ : List ℕ) (t′ : List Scope)
-    (performed-on : result number v (world s′ log′ charts′ copy′ t′) ≡ performedAt n (world s log charts copy t) k) where
-  e : result number v (world s′ log′ charts′ copy′ t′) ≡ performedAt n (world s log charts copy blanks) k
-  e = performed-on ∙ ap (λ (u : List Scope). performedAt n (world s log charts copy u) k) is-blank
-
+module _ {number : ℕ} {v : ℤ} (s : State) (log charts copy : List ℕ) (n : ℕ) {k : Call} (free : Free k) (typed : Typed k)
+    (s′ : State) (log′ charts′ copy′ : List ℕ) (t′ : List Scope)
+    (e : result number v (world s′ log′ charts′ copy′ t′) ≡ performedAt n (world s log charts copy blanks) k) where
   kept-table : ByLength (λ given leaves. CallPost k given (answer number v) leaves) (world s log charts copy) n (world s′ log′ charts′ copy′) (cutBetween s s′)
   kept-table ys l = go (eqb n scopeLimit) refl
     where

@@ -1,6 +1,5 @@
 // The calls of an open store but for their crossing to the lent table: each is performed, and its number and value are turned into its own answer.
-// Begin, change, hand over, commit and abort have the table by value. Force, flush and read have no use for it: they are performed on a blank one,
-// and say whether the lent one is to be cleared.
+// Begin, change, hand over, commit and abort have the table by value. Force, flush and read have no use for it, and say whether the lent one is to be cleared.
 ghost use mathlib.Core.Path.{_≡_};
 ghost use mathlib.Core.Bool.{not, _&&_};
 ghost use Rattle.state.specs.World.{isOpenPhase};
@@ -13,7 +12,6 @@ use crate::answers::ended;
 use crate::answers::flushed;
 use crate::answers::forced;
 use crate::answers::handed_over;
-use crate::entries::blank;
 use crate::outs::AbortOut;
 use crate::outs::BeginOut;
 use crate::outs::ChangeOut;
@@ -23,6 +21,7 @@ use crate::outs::ForceClears;
 use crate::outs::HandOverOut;
 use crate::outs::ReadClears;
 use calls::perform::perform;
+use calls::perform::perform_free;
 use calls_model::Request;
 use state::answers::BeginResult;
 use state::answers::ChangeResult;
@@ -186,7 +185,7 @@ pub fn force_core(
     ensures { λ r. ⌜ ByLength (λ given leaves. ForcePost args given (r .result .answer) leaves) (world state (now (log .entry)) (now (charts .entry)) (now (copy .entry))) n
         (world (r .result .state) (now (log .exit)) (now (charts .exit)) (now (copy .exit))) (r .clears) ⌝ }
 {
-    let p = perform(state, log, charts, copy, n, blank(), Request::Force);
+    let p = perform_free(state, log, charts, copy, n, Request::Force);
     let s = p.state;
     let before = state.phase;
     let after = s.phase;
@@ -210,7 +209,7 @@ pub fn flush_core(
     ensures { λ r. ⌜ ByLength (λ given leaves. FlushPost args given (r .result .answer) leaves) (world state (now (log .entry)) (now (charts .entry)) (now (copy .entry))) n
         (world (r .result .state) (now (log .exit)) (now (charts .exit)) (now (copy .exit))) (r .clears) ⌝ }
 {
-    let p = perform(state, log, charts, copy, n, blank(), Request::Flush(args));
+    let p = perform_free(state, log, charts, copy, n, Request::Flush(args));
     let s = p.state;
     let before = state.phase;
     let after = s.phase;
@@ -234,7 +233,7 @@ pub fn read_core(
     ensures { λ r. ⌜ ByLength (λ given leaves. ReadPost args given (r .result .answer) leaves) (world state (now (log .entry)) (now (charts .entry)) (now (copy .entry))) n
         (world (r .result .state) (now (log .exit)) (now (charts .exit)) (now (copy .exit))) (r .clears) ⌝ }
 {
-    let p = perform(state, log, charts, copy, n, blank(), Request::Read(args));
+    let p = perform_free(state, log, charts, copy, n, Request::Read(args));
     let s = p.state;
     let before = state.phase;
     let after = s.phase;

@@ -5,6 +5,7 @@ use state::ram::Phase;
 
 pub mod force;
 pub mod fuse;
+pub mod lengths;
 pub mod pages;
 pub mod tail;
 pub mod writes;

@@ -1,7 +1,5 @@
-// The lengths of the lent buffers, and the states that a format and an opening leave.
+// The states that a format and an opening leave.
 ghost use mathlib.Core.Path.{_≡_};
-ghost use mathlib.Core.Bool.{_&&_};
-ghost use lib.Dec.{eqb};
 ghost use Rattle.state.specs.World.{closedState};
 ghost use Rattle.recovery_model.specs.Answering.{openedState};
 use journal::Control;
@@ -12,22 +10,6 @@ use state::ram::State;
 use tables::visits::no_tables;
 use tables_model::Active;
 use tables_model::Tables;
-
-// The log, the charts, the copy and the scope table have their lengths.
-pub fn lengths_fit(log: usize, charts: usize, copy: usize, scopes: usize) -> bool
-    ensures { λ r. ⌜ r ≡ (eqb log 65536 && eqb charts 1024 && eqb copy 1024 && eqb scopes 64) ⌝ }
-{
-    if log != 65536 {
-        return false;
-    }
-    if charts != 1024 {
-        return false;
-    }
-    if copy != 1024 {
-        return false;
-    }
-    scopes == 64
-}
 
 // The one closed state.
 pub fn closed_state() -> State

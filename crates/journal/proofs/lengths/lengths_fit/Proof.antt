@@ -1,7 +1,7 @@
--- `recovery::ram::lengths_fit` meets its contract. Assumes nothing.
+-- `journal::lengths::lengths_fit` meets its contract. Assumes nothing.
 use borrow.Author.Tests.{eq-eqb, ne-eqb}
-use Rattle.recovery.proofs.ram.lengths_fit.Statement.{statement}
-use Rattle.recovery.proofs.ram.lengths_fit.Tie as tie
+use Rattle.journal.proofs.lengths.lengths_fit.Statement.{statement}
+use Rattle.journal.proofs.lengths.lengths_fit.Tie as tie
 
 returns : tie.Need-returns
 returns c = rw (ne-eqb _ _ (c .if1 .taken))
