@@ -2,4 +2,5 @@ mod NoRefusal
 mod CallSteps
 mod Crossings
 mod CountersAfter
-mod Performing
+-- what callers that work in place use
+pub mod Performing

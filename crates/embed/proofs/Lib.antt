@@ -1,0 +1,5 @@
+-- What the proofs of several functions use.
+mod Twos
+mod Answers
+mod Calls
+mod Openings
