@@ -22,6 +22,17 @@ use state::arguments::HandOverArgs;
 use state::arguments::ReadArgs;
 use state::ram::Fuse;
 
+// Sizes in bytes.
+const FILE_LIMIT: usize = 4096;
+
+pub const ENTRY_LENGTH: usize = 8;
+
+pub const CALL_LENGTH: usize = 6;
+
+const SESSION_LIMIT: usize = 32;
+
+const NO_FUSE: u32 = 4294967295;
+
 // The number in two bytes.
 fn read16(file: &[u8], at: usize) -> u16
     requires { ⌜ at + 2 ≤ length (now file) ⌝ }
@@ -45,8 +56,8 @@ pub fn fuse_at(file: &[u8], i: usize) -> Fuse
     requires { ⌜ entryAt i + 8 ≤ length (now file) ⌝ }
     ensures { λ r. ⌜ allowance r ≡ fuseAt (now (file .entry)) i ⌝ }
 {
-    let writes = read32(file, 1 + 8 * i);
-    if writes == 4294967295 {
+    let writes = read32(file, 1 + ENTRY_LENGTH * i);
+    if writes == NO_FUSE {
         Fuse::Unlimited
     } else {
         Fuse::Left(writes)
@@ -58,7 +69,7 @@ fn start_at(file: &[u8], i: usize) -> usize
     requires { ⌜ entryAt i + 8 ≤ length (now file) ⌝ }
     ensures { λ r. ⌜ r ≡ startAt (now (file .entry)) i ⌝ }
 {
-    read16(file, 1 + 8 * i + 4) as usize
+    read16(file, 1 + ENTRY_LENGTH * i + 4) as usize
 }
 
 // The number of calls of entry i.
@@ -66,7 +77,7 @@ pub fn calls_at(file: &[u8], i: usize) -> usize
     requires { ⌜ entryAt i + 8 ≤ length (now file) ⌝ }
     ensures { λ r. ⌜ r ≡ callsAt (now (file .entry)) i ⌝ }
 {
-    read16(file, 1 + 8 * i + 6) as usize
+    read16(file, 1 + ENTRY_LENGTH * i + 6) as usize
 }
 
 // The call that the 6 bytes from `at` on would be, by their code, whatever the others are.
@@ -141,7 +152,7 @@ fn are_calls(file: &[u8], at: usize, n: usize) -> bool
     let mut left = n;
     while 0 < left {
         if is_call_at(file, here) {
-            here += 6;
+            here += CALL_LENGTH;
             left -= 1;
         } else {
             return false;
@@ -155,18 +166,18 @@ fn are_bodies(file: &[u8], sessions: usize) -> bool
     requires { ⌜ entryAt sessions ≤ length (now file) ⌝ }
     ensures { λ r. ⌜ r ≡ areBodies sessions 0 (entryAt sessions) (now (file .entry)) ⌝ }
 {
-    let mut at = 1 + 8 * sessions;
+    let mut at = 1 + ENTRY_LENGTH * sessions;
     let mut i: usize = 0;
     while i < sessions {
         if start_at(file, i) != at {
             return false;
         }
         let n = calls_at(file, i);
-        if (file.len() - at) / 6 < n {
+        if (file.len() - at) / CALL_LENGTH < n {
             return false;
         }
         if are_calls(file, at, n) {
-            at += 6 * n;
+            at += CALL_LENGTH * n;
             i += 1;
         } else {
             return false;
@@ -180,7 +191,7 @@ pub fn is_run_file(file: &[u8]) -> bool
     ensures { λ r. ⌜ r ≡ isRunFile (now (file .entry)) ⌝ }
 {
     let length = file.len();
-    if 4096 < length {
+    if FILE_LIMIT < length {
         return false;
     }
     if length == 0 {
@@ -190,10 +201,10 @@ pub fn is_run_file(file: &[u8]) -> bool
     if sessions == 0 {
         return false;
     }
-    if 32 < sessions {
+    if SESSION_LIMIT < sessions {
         return false;
     }
-    if length < 1 + 8 * sessions {
+    if length < 1 + ENTRY_LENGTH * sessions {
         return false;
     }
     are_bodies(file, sessions)

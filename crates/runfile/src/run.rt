@@ -24,6 +24,8 @@ use recovery::ram::closed_state;
 use rows::numbers::index;
 use run_lines::line::put_fault_line;
 use run_lines::line::put_line;
+use run_reader::file::CALL_LENGTH;
+use run_reader::file::ENTRY_LENGTH;
 use run_reader::file::call_at;
 use run_reader::file::calls_at;
 use run_reader::file::fuse_at;
@@ -139,7 +141,7 @@ fn turns(
             charts,
             copy,
             file,
-            place + 6 * i,
+            place + CALL_LENGTH * i,
             out,
             session,
             i + 1,
@@ -187,13 +189,13 @@ fn sessions(
 {
     let s = index(file[0]);
     let mut p = point;
-    let mut place = 1 + 8 * s;
+    let mut place = 1 + ENTRY_LENGTH * s;
     let mut i: usize = 0;
     while i < s {
         let fuse = fuse_at(file, i);
         let n = calls_at(file, i);
         p = session(p, log, charts, copy, fuse, file, place, n, out, i + 1);
-        place += 6 * n;
+        place += CALL_LENGTH * n;
         i += 1;
     }
     p.at
