@@ -11,11 +11,10 @@ count=$(mktemp)
 trap 'rm -f "$count"' EXIT
 rt ci 2>&1 | tee "$count" || failed=1
 
-# The archive that the comparison, the benchmark and the example in C link.
-rt staticlib embed || failed=1
+# The example in C writes the archive that the comparison and the benchmark link too.
+examples/c/run.sh || failed=1
 (cd compare && cargo test --release --offline --quiet && cargo run --release --offline --quiet) || failed=1
 (cd bench && cargo build --release --offline --quiet) || failed=1
-examples/c/run.sh || failed=1
 
 tail -n 1 "$count"
 exit "$failed"
