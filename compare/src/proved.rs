@@ -12,6 +12,8 @@ use std::process::{Command, Stdio};
 pub const RAM_LENGTH: usize = 2_904;
 const TABLE: usize = 1_112;
 const COPY: usize = 1_880;
+/// Where the block counts the entries in use, in eight bytes; the others are unused, whatever their bytes.
+const USED: usize = 32;
 /// Bytes of an entry of the scope table.
 const ENTRY: usize = 12;
 /// No fuse.
@@ -217,7 +219,9 @@ impl Store for ProvedStore {
             cell: bytes[10],
             handed: bytes[11] != 0,
         };
-        self.store.ram[TABLE..COPY].chunks_exact(ENTRY).map(entry).collect()
+        let used = (0..8).rev().fold(0, |n, i| n << 8 | usize::from(self.store.ram[USED + i]));
+        let in_use = self.store.ram[TABLE..COPY].chunks_exact(ENTRY).take(used).map(entry);
+        with_length(&in_use.collect::<Vec<_>>(), RIGHT.scopes)
     }
 
     fn log_mut(&mut self) -> &mut [u8] {
