@@ -16,7 +16,7 @@
  * A call writes one row (16 bytes) or one page (32 bytes) of the stored memory at a time, in the order that write-ahead logging needs. If the power fails
  * at any point between two of these writes, chart_open brings the store back: every committed change is in the charts, every other one is undone.
  *
- * The calls are not reentrant on the same buffers. They use the stack only, less than 7 KB on x86-64.
+ * The calls are not reentrant on the same buffers. They use the stack only, less than 7 KB as measured on x86-64.
  */
 #ifndef CHART_STORE_H
 #define CHART_STORE_H

@@ -5,36 +5,16 @@
 # The script only computes the places of the context; the files that it writes are the proofs.
 #   python3 bridge.py FOLDER     (FOLDER: the crate's proofs/), then `rt fmt`, which lays the files out
 import sys
+from places import sub, nest, nth, tokens, seps, ld, ops, fits
 folder=sys.argv[1]
-SUB='₀₁₂₃₄₅₆₇₈₉'
-def sub(k): return ''.join(SUB[int(c)] for c in str(k))
-def nest(xs,end='tt'):
-    s=end
-    for x in reversed(xs): s=f'({x}, {s})'
-    return s
-def nth(a,k): return a+' .1'*k+' .0'
 def make(cells):
     name='BridgeCells' if cells else 'Bridge'
     B=3; L=B+(1 if cells else 0); N=18; T=L; OWN=B+(1 if cells else 0)
     def P(k,s): return 2*(N-1-k)+s
     def Q(k,s): return P(k,s)-(1 if k<7 else 0)      # after the cell of local 7 is taken out
     toks=['flft κ₀ q₀','flft κ₁ q₁','flft κ₂ q₂']
-    def tokens(ts):
-        s='‵ ftrue'
-        for t in reversed(ts): s=f'‵ ({t}) ⊛ '+(s if s=='‵ ftrue' else f'({s})')
-        return s
-    def seps(ts):
-        s='sem 𝓤 H A ftrue'
-        for t in reversed(ts): s=f'sep 𝓤 (A .{t[1:]}) ({s})'
-        return s
     own_t=toks+(['flft κ₃ q₃'] if cells else [])
     thin_t=toks+['flft (ν ∷ []) fullShare']+(['flft κ₃ q₃'] if cells else [])
-    ld=lambda n: f"(load ! (from ! (stop !)) (look ! {n} refl))"
-    def ops(ns):
-        s='(no-more !)'
-        for n in reversed(ns): s=f'(and-then ! {ld(n)} {s})'
-        return s
-    fits=lambda r: f'(tt, (tt, (record {{ fits = {r} .0 }}, tt)))'
     W=[]; w=W.append; par=0
     def reb(p,a,b,s,room):
         w(f"assigns ! (addr ! (from ! (fld ! refl (hop ! (look-in ! {P(p,s)} (sub ! 0 refl (whole !))) (stop !))))) (from ! (stop !)) (init ! {P(a,s)} refl (tt, tt)) $")

@@ -6,28 +6,8 @@
 # The script only computes the places of the context; the files that it writes are the proofs.
 #   python3 thin.py FOLDER     (FOLDER: the crate's proofs/), then `rt fmt`, which lays the files out
 import sys
+from places import sub, nest, nth, tokens, seps, ld, ops, fits
 folder=sys.argv[1]
-SUB='₀₁₂₃₄₅₆₇₈₉'
-def sub(k): return ''.join(SUB[int(c)] for c in str(k))
-def nest(xs):
-    s='tt'
-    for x in reversed(xs): s=f'({x}, {s})'
-    return s
-def nth(a,k): return a+' .1'*k+' .0'
-def tokens(ts):
-    s='‵ ftrue'
-    for t in reversed(ts): s=f'‵ ({t}) ⊛ '+(s if s=='‵ ftrue' else f'({s})')
-    return s
-def seps(ts):
-    s='sem 𝓤 H A ftrue'
-    for t in reversed(ts): s=f'sep 𝓤 (A .{t[1:]}) ({s})'
-    return s
-def ld(n): return f"(load ! (from ! (stop !)) (look ! {n} refl))"
-def ops(ns):
-    s='(no-more !)'
-    for n in reversed(ns): s=f'(and-then ! {ld(n)} {s})'
-    return s
-def fits(r): return f'(tt, (tt, (record {{ fits = {r} .0 }}, tt)))'
 def wrapped(xs,ind,end):
     lines=[]; cur=ind
     for x in xs:
