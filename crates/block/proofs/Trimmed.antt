@@ -15,7 +15,7 @@ use Rattle.book.specs.Book.{Answer, Outcome, call}
 use Rattle.tables_model.specs.Meaning.{tablesOf, scopeTable}
 use Rattle.state.specs.declared.ram.Scope.{Scope}
 use Rattle.state.specs.World.{World, openState, closedState, scopeOf, cleared, worldOf, stateOf as bookState, tableOf as bookTable}
-use Rattle.state.specs.Contracts.{Result, result, chartsAfter, byBook, CallPost}
+use Rattle.state.specs.Contracts.{Answered, answered, chartsAfter, byBook, CallPost}
 use Rattle.block.specs.Fields.{part, inUse, allIn}
 use Rattle.block.specs.Block.{stateOf, worldIn}
 use Rattle.block.proofs.InUse.{blank-in-use, padded-in-use, in-use-twice}
@@ -65,18 +65,18 @@ of-book cells b charts =
 
 -- ── The contract ──────────────────────────────────────────────────────────────────────────────────────────────────────
 
-abbrev trimResult : Result → Result
+abbrev trimResult : Answered → Answered
 trimResult r = record { answer = r .answer; world = trimmed (r .world) }
 
 module _ {k : Call} {w : World} {a : Answer} {v : World} (given : trimmed w ≡ w) (p : CallPost k w a v) where
   -- nothing changed
-  kept : (n : ℕ) → record { answer = a; world = v } ≡ result n (pos 0) w → record { answer = a; world = trimmed v } ≡ result n (pos 0) w
-  kept n e = ap trimResult e ∙ ap (result n (pos 0)) given
+  kept : (n : ℕ) → record { answer = a; world = v } ≡ answered n (pos 0) w → record { answer = a; world = trimmed v } ≡ answered n (pos 0) w
+  kept n e = ap trimResult e ∙ ap (answered n (pos 0)) given
 
-  cut-off : (record { answer = a; world = v } ≡ result 5 (pos 0) w) ⊎ (record { answer = a; world = v } ≡ result 5 (pos 0) (cleared (v .log) (w .charts)))
-      → (record { answer = a; world = trimmed v } ≡ result 5 (pos 0) w) ⊎ (record { answer = a; world = trimmed v } ≡ result 5 (pos 0) (cleared (v .log) (w .charts)))
+  cut-off : (record { answer = a; world = v } ≡ answered 5 (pos 0) w) ⊎ (record { answer = a; world = v } ≡ answered 5 (pos 0) (cleared (v .log) (w .charts)))
+      → (record { answer = a; world = trimmed v } ≡ answered 5 (pos 0) w) ⊎ (record { answer = a; world = trimmed v } ≡ answered 5 (pos 0) (cleared (v .log) (w .charts)))
   cut-off (inl e) = inl (kept 5 e)
-  cut-off (inr e) = inr (ap trimResult e ∙ ap (result 5 (pos 0)) (of-cleared (v .log) (w .charts)))
+  cut-off (inr e) = inr (ap trimResult e ∙ ap (answered 5 (pos 0)) (of-cleared (v .log) (w .charts)))
 
   by-book : (cells : ℕ → ℤ) (b : Book) → record { answer = a; world = v } ≡ byBook cells b k w → record { answer = a; world = trimmed v } ≡ byBook cells b k w
   unfolding byBook

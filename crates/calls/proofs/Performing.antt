@@ -18,7 +18,7 @@ use Rattle.state.specs.declared.ram.Phase.the-variants.{Open, Closed}
 use Rattle.state.specs.declared.ram.State.{State}
 use Rattle.state.specs.declared.ram.Scope.{Scope}
 use Rattle.state.specs.World.{World, isOpenPhase, scopeOf, cleared}
-use Rattle.state.specs.Contracts.{Result, result}
+use Rattle.state.specs.Contracts.{Answered, answered}
 use Rattle.journal.specs.declared.Control.{Control}
 use Rattle.calls_model.specs.Acts.{Core, core, acted, valueBy, valueNow}
 use Rattle.calls_model.specs.Refusals.{refusalBy}
@@ -61,12 +61,12 @@ fit log charts copy n e =
 
 -- one is wrong
 pub not-fit : (n : ℕ) (w : World) (k : Call) → length (w .scopes) ≡ 64
-    → (eqb (length (w .log)) 65536 && eqb (length (w .charts)) 1024 && eqb (length (w .copy)) 1024 && eqb n 64) ≡ false → result 1 (pos 0) w ≡ performedAt n w k
+    → (eqb (length (w .log)) 65536 && eqb (length (w .charts)) 1024 && eqb (length (w .copy)) 1024 && eqb n 64) ≡ false → answered 1 (pos 0) w ≡ performedAt n w k
 unfolding performed numberOf
 not-fit n w k long = go (eqb n 64)
   where
     go : (t : Bool) → (eqb (length (w .log)) 65536 && eqb (length (w .charts)) 1024 && eqb (length (w .copy)) 1024 && t) ≡ false
-        → result 1 (pos 0) w ≡ cond t (performed w k) (result 1 (pos 0) w)
+        → answered 1 (pos 0) w ≡ cond t (performed w k) (answered 1 (pos 0) w)
     go true e = rw (eq-eqb _ _ long, e)
     go false e = refl
 
@@ -106,7 +106,7 @@ right-number s log charts copy table k lent long =
     rw (eq-eqb _ _ (lent .log-long), eq-eqb _ _ (lent .charts-long), eq-eqb _ _ (lent .copy-long), eq-eqb _ _ long)
 
 -- a check refuses it
-pub when-refused : (w : World) (k : Call) (n m : ℕ) → n ≡ m → (n ≡ 0 → ⊥) → result n (pos 0) w ≡ decided w k m
+pub when-refused : (w : World) (k : Call) (n m : ℕ) → n ≡ m → (n ≡ 0 → ⊥) → answered n (pos 0) w ≡ decided w k m
 when-refused w k zero m e h = absurd (h refl)
 when-refused w k (suc n) m e h = rw (← e)
 
@@ -117,9 +117,9 @@ unfolding coreOf
 when-accepted s log charts copy table flat k m e h = rw (h, e)
 
 -- a result with the table that it leaves
-pub but-table : (r : Result) (n : ℕ) (v : ℤ) (s : State) (log charts copy : List ℕ) (table : List Scope)
-    → result n v (world s log charts copy table) ≡ r → result n v (world s log charts copy (r .world .scopes)) ≡ r
-but-table r n v s log charts copy table e = ap (λ (q : Result). result n v (world s log charts copy (q .world .scopes))) (sym e) ∙ e
+pub but-table : (r : Answered) (n : ℕ) (v : ℤ) (s : State) (log charts copy : List ℕ) (table : List Scope)
+    → answered n v (world s log charts copy table) ≡ r → answered n v (world s log charts copy (r .world .scopes)) ≡ r
+but-table r n v s log charts copy table e = ap (λ (q : Answered). answered n v (world s log charts copy (q .world .scopes))) (sym e) ∙ e
 
 -- the flat table of all zeros is that of unused entries
 pub blank-entries : entries (replicate 448 0) ≡ map entryIn (replicate 64 (scopeOf unused))
@@ -141,7 +141,7 @@ value-now x (Call.read c) = refl
 
 module _ (x y : Core) (k : Call) (is : y ≡ acted x k) where
   -- the power failed
-  pub when-cut : y .ram .journal .control .phase ≡ Closed → result 5 (pos 0) (cleared (y .ram .journal .log) (y .charts)) ≡ accepted x k
+  pub when-cut : y .ram .journal .control .phase ≡ Closed → answered 5 (pos 0) (cleared (y .ram .journal .log) (y .charts)) ≡ accepted x k
   unfolding settled
   when-cut e = rw (← is, e)
 
@@ -149,6 +149,6 @@ module _ (x y : Core) (k : Call) (is : y ≡ acted x k) where
   pub when-done : (v : ℤ) (s : State) (table : List Scope) → y .ram .journal .control .phase ≡ Open
       → v ≡ valueNow (x .tables .begun) (y .ram .journal .control) (y .ram .copy) k
       → s ≡ stateAfter (y .ram .journal .control) (y .tables) (y .ram .journal .tail) → table ≡ map structOf (y .scopes)
-      → result 0 v (world s (y .ram .journal .log) (y .charts) (y .ram .copy) table) ≡ accepted x k
+      → answered 0 v (world s (y .ram .journal .log) (y .charts) (y .ram .copy) table) ≡ accepted x k
   unfolding settled worldIn
   when-done v s table e p q r = rw (p, q, r, is, value-now x k) (rw (rw is at e))

@@ -7,7 +7,7 @@ ghost use lib.IntN.{pos};
 ghost use lib.ListN.{length};
 ghost use Rattle.book.specs.Limits.{chartsLength, scopeLimit};
 ghost use Rattle.tables_model.specs.Entries.{flatLength, entries};
-ghost use Rattle.state.specs.Contracts.{result};
+ghost use Rattle.state.specs.Contracts.{answered};
 ghost use Rattle.state.specs.World.{cleared};
 ghost use Rattle.calls_model.specs.Acts.{core, Accepts};
 ghost use Rattle.calls_model.specs.Perform.{isCoherent, controlIn, numberBy, accepted, performed, performedAt, world, stateAfter, doneOf, performedOf, ComesTo, Lent};
@@ -81,7 +81,7 @@ pub fn number_of(c: Control, t: Tables, flat: &[u16], request: Request) -> u8
 // The power failed: RAM is cleared.
 fn cut_off(copy: &mut [u8], tail: &mut [u8], flat: &mut [u16]) -> Done
     requires { ⌜ (length (now copy) ≡ chartsLength) × (length (now tail) ≡ 1024) × (length (now flat) ≡ flatLength) ⌝ }
-    ensures { λ r. ⌜ ((log charts : List ℕ) → doneOf r log charts (now (copy .exit)) (now (tail .exit)) (now (flat .exit)) ≡ result 5 (pos 0) (cleared log charts)) ⌝ }
+    ensures { λ r. ⌜ ((log charts : List ℕ) → doneOf r log charts (now (copy .exit)) (now (tail .exit)) (now (flat .exit)) ≡ answered 5 (pos 0) (cleared log charts)) ⌝ }
 {
     clear(copy);
     clear(tail);
@@ -155,7 +155,7 @@ fn new_state(d: Done, tail: [u8; 1024]) -> State
 
 // State and table stay as they were.
 fn refused(n: u8, state: State, table: [Scope; 64]) -> Performed
-    ensures { λ r. ⌜ ((log charts copy : List ℕ) → performedOf r log charts copy ≡ result n (pos 0) (world state log charts copy table)) ⌝ }
+    ensures { λ r. ⌜ ((log charts copy : List ℕ) → performedOf r log charts copy ≡ answered n (pos 0) (world state log charts copy table)) ⌝ }
 {
     Performed {
         number: n,

@@ -20,7 +20,7 @@ use Rattle.state.specs.declared.ram.Phase.the-variants.{Open, Closed}
 use Rattle.state.specs.declared.ram.Fuse.{Fuse}
 use Rattle.state.specs.declared.ram.Fuse.the-variants.{Unlimited, Left}
 use Rattle.state.specs.World.{World, rightLengths, isOpenPhase, cleared}
-use Rattle.state.specs.Contracts.{Result, result, numbers}
+use Rattle.state.specs.Contracts.{Answered, answered, numbers}
 use Rattle.journal.specs.declared.Control.{Control}
 use Rattle.journal.specs.Journal.{paged}
 use Rattle.undo.specs.Writing.{isRunning}
@@ -100,24 +100,24 @@ charts-cut x (Call.flush p) e = page-cut _ (x .charts) p _ e
 charts-cut x (Call.read c) e = refl
 
 -- what an accepted call gives back and leaves: done, or closed with the charts as they were
-data Settled (charts : List ℕ) (r : Result) : Type 0 where
+data Settled (charts : List ℕ) (r : Answered) : Type 0 where
   done : r .answer .number ≡ 0 → Settled charts r
-  closed : r ≡ result 5 (pos 0) (cleared (r .world .log) charts) → Settled charts r
+  closed : r ≡ answered 5 (pos 0) (cleared (r .world .log) charts) → Settled charts r
 
 settled-either : (x : Core) (k : Call) (v : ℤ) → Settled (x .charts) (settled (acted x k) v)
 unfolding settled
 settled-either x k v = go (isRunning (acted x k .ram .journal)) refl
   where
     go : (t : Bool) → isRunning (acted x k .ram .journal) ≡ t
-        → Settled (x .charts) (cond t (result 0 v (worldIn (acted x k))) (result 5 (pos 0) (cleared (acted x k .ram .journal .log) (acted x k .charts))))
+        → Settled (x .charts) (cond t (answered 0 v (worldIn (acted x k))) (answered 5 (pos 0) (cleared (acted x k .ram .journal .log) (acted x k .charts))))
     go true e = done refl
-    go false e = closed (ap (λ (cs : List ℕ). result 5 (pos 0) (cleared (acted x k .ram .journal .log) cs)) (charts-cut x k e))
+    go false e = closed (ap (λ (cs : List ℕ). answered 5 (pos 0) (cleared (acted x k .ram .journal .log) cs)) (charts-cut x k e))
 
 -- ── What a call promises ──────────────────────────────────────────────────────────────────────────────────────────────
 
 -- refused with this number and nothing changed, or accepted
-data Ends (w : World) (k : Call) (r : Result) : Type 0 where
-  refuses : (n : ℕ) → Among k (suc n) → r ≡ result (suc n) (pos 0) w → Ends w k r
+data Ends (w : World) (k : Call) (r : Answered) : Type 0 where
+  refuses : (n : ℕ) → Among k (suc n) → r ≡ answered (suc n) (pos 0) w → Ends w k r
   accepts : Settled (w .charts) r → Ends w k r
 
 module _ (w : World) (k : Call) where
@@ -140,43 +140,43 @@ module _ (w : World) (k : Call) where
   pub number-listed : member (performed w k .answer .number) (numbers k) ≡ true
   number-listed = go (performed w k) ends
     where
-      settle : (r : Result) → Settled (w .charts) r → member (r .answer .number) (numbers k) ≡ true
+      settle : (r : Answered) → Settled (w .charts) r → member (r .answer .number) (numbers k) ≡ true
       settle r (done e) = ap (λ (n : ℕ). member n (numbers k)) e ∙ always k .0 .is
-      settle r (closed e) = ap (λ (q : Result). member (q .answer .number) (numbers k)) e ∙ always k .2 .is
+      settle r (closed e) = ap (λ (q : Answered). member (q .answer .number) (numbers k)) e ∙ always k .2 .is
 
-      go : (r : Result) → Ends w k r → member (r .answer .number) (numbers k) ≡ true
-      go r (refuses n a e) = ap (λ (q : Result). member (q .answer .number) (numbers k)) e ∙ a .is
+      go : (r : Answered) → Ends w k r → member (r .answer .number) (numbers k) ≡ true
+      go r (refuses n a e) = ap (λ (q : Answered). member (q .answer .number) (numbers k)) e ∙ a .is
       go r (accepts s) = settle r s
 
-  pub wrong-lengths : rightLengths w ≡ false → performed w k ≡ result 1 (pos 0) w
+  pub wrong-lengths : rightLengths w ≡ false → performed w k ≡ answered 1 (pos 0) w
   unfolding performed numberOf
   wrong-lengths e = rw e
 
-  pub closed-store : rightLengths w ≡ true → isOpenPhase (w .state .phase) ≡ false → performed w k ≡ result 5 (pos 0) w
+  pub closed-store : rightLengths w ≡ true → isOpenPhase (w .state .phase) ≡ false → performed w k ≡ answered 5 (pos 0) w
   unfolding performed numberOf
   closed-store l e = rw (l, e)
 
   pub nothing-changes : performed w k .answer .number ≢ 0 → performed w k .answer .number ≢ 5
-      → performed w k ≡ result (performed w k .answer .number) (pos 0) w
+      → performed w k ≡ answered (performed w k .answer .number) (pos 0) w
   nothing-changes = go (performed w k) ends
     where
-      settle : (r : Result) → Settled (w .charts) r → r .answer .number ≢ 0 → r .answer .number ≢ 5 → r ≡ result (r .answer .number) (pos 0) w
+      settle : (r : Answered) → Settled (w .charts) r → r .answer .number ≢ 0 → r .answer .number ≢ 5 → r ≡ answered (r .answer .number) (pos 0) w
       settle r (done e) h five = absurd (h e)
-      settle r (closed e) h five = absurd (five (ap (λ (q : Result). q .answer .number) e))
+      settle r (closed e) h five = absurd (five (ap (λ (q : Answered). q .answer .number) e))
 
-      go : (r : Result) → Ends w k r → r .answer .number ≢ 0 → r .answer .number ≢ 5 → r ≡ result (r .answer .number) (pos 0) w
-      go r (refuses n a e) h five = e ∙ ap (λ (q : Result). result (q .answer .number) (pos 0) w) (sym e)
+      go : (r : Answered) → Ends w k r → r .answer .number ≢ 0 → r .answer .number ≢ 5 → r ≡ answered (r .answer .number) (pos 0) w
+      go r (refuses n a e) h five = e ∙ ap (λ (q : Answered). answered (q .answer .number) (pos 0) w) (sym e)
       go r (accepts s) h five = settle r s h five
 
   pub power-failed : performed w k .answer .number ≡ 5
-      → (performed w k ≡ result 5 (pos 0) w) ⊎ (performed w k ≡ result 5 (pos 0) (cleared (performed w k .world .log) (w .charts)))
+      → (performed w k ≡ answered 5 (pos 0) w) ⊎ (performed w k ≡ answered 5 (pos 0) (cleared (performed w k .world .log) (w .charts)))
   power-failed = go (performed w k) ends
     where
-      settle : (r : Result) → Settled (w .charts) r → r .answer .number ≡ 5
-          → (r ≡ result 5 (pos 0) w) ⊎ (r ≡ result 5 (pos 0) (cleared (r .world .log) (w .charts)))
+      settle : (r : Answered) → Settled (w .charts) r → r .answer .number ≡ 5
+          → (r ≡ answered 5 (pos 0) w) ⊎ (r ≡ answered 5 (pos 0) (cleared (r .world .log) (w .charts)))
       settle r (done e) h = absurd (omega arith)
       settle r (closed e) h = inr e
 
-      go : (r : Result) → Ends w k r → r .answer .number ≡ 5 → (r ≡ result 5 (pos 0) w) ⊎ (r ≡ result 5 (pos 0) (cleared (r .world .log) (w .charts)))
-      go r (refuses n a e) h = inl (e ∙ ap (λ (m : ℕ). result m (pos 0) w) (sym (ap (λ (q : Result). q .answer .number) e) ∙ h))
+      go : (r : Answered) → Ends w k r → r .answer .number ≡ 5 → (r ≡ answered 5 (pos 0) w) ⊎ (r ≡ answered 5 (pos 0) (cleared (r .world .log) (w .charts)))
+      go r (refuses n a e) h = inl (e ∙ ap (λ (m : ℕ). answered m (pos 0) w) (sym (ap (λ (q : Answered). q .answer .number) e) ∙ h))
       go r (accepts s) h = settle r s h

@@ -21,7 +21,7 @@ use Rattle.book.proofs.Sound.{sound-through}
 use Rattle.tables_model.specs.Meaning.{tablesOf, indexOf}
 use Rattle.tables_model.proofs.WithinLimits.{in-range}
 use Rattle.state.specs.World.{World, rightLengths, isOpenPhase, closedState, openState, stateOf, worldOf, Represents}
-use Rattle.state.specs.Contracts.{Result, result, withPage, chartsAfter, byBook}
+use Rattle.state.specs.Contracts.{Answered, answered, withPage, chartsAfter, byBook}
 use Rattle.undo.specs.Writing.{rowCount}
 use Rattle.undo.proofs.Steady.{steady-sound}
 use Rattle.undo.proofs.RowsLookedUp.{count-rows}
@@ -41,7 +41,7 @@ charts-kept cells b (flushes p) n charts =
     ap (λ (t : Bool). cond t (withPage p (pageBytes (pageAfter cells (rowsOf b) p)) charts) charts) (ne-eqb (suc n) 0 (λ q. omega arith))
 
 -- what the book's outcome comes to in the values
-abbrev outcomeIn : (ℕ → ℤ) → Book → Call → List ℕ → Outcome → Result
+abbrev outcomeIn : (ℕ → ℤ) → Book → Call → List ℕ → Outcome → Answered
 outcomeIn cells b k charts o =
     record { answer = o .answer; world = worldOf cells (o .book) (chartsAfter cells b (ending k) (o .answer .number) charts) }
 
@@ -93,16 +93,16 @@ module _ (cells : ℕ → ℤ) (b : Book) (charts : List ℕ) (k : Call) (range 
         go (through b k .isOpen)
       where
         go : (u : Bool)
-            → _≡_ {A = Result} (record {
+            → _≡_ {A = Answered} (record {
               answer = cond u (record { answer = answer 0 (value cells b k); book = through b k }) (refused 5 (through b k)) .answer;
               world = worldOf cells (through b k) (cond u (chartsAfter cells b (ending k) 0 charts) charts);
             }) (outcomeIn cells b k charts (cond u (record { answer = answer 0 (value cells b k); book = through b k }) (refused 5 (through b k))))
         go true = refl
-        go false = ap (λ (cs : List ℕ). result 5 (pos 0) (worldOf cells (through b k) cs)) (sym (charts-kept cells b (ending k) 4 charts))
+        go false = ap (λ (cs : List ℕ). answered 5 (pos 0) (worldOf cells (through b k) cs)) (sym (charts-kept cells b (ending k) 4 charts))
 
     decided-is : (n : ℕ) → refusal b k ≡ n → decided (worldOf cells b charts) k n ≡ outcomeIn cells b k charts (decide cells b k n)
     decided-is zero e = accepted-is e
-    decided-is (suc n) e = ap (λ (cs : List ℕ). result (suc n) (pos 0) (worldOf cells b cs)) (sym (charts-kept cells b (ending k) n charts))
+    decided-is (suc n) e = ap (λ (cs : List ℕ). answered (suc n) (pos 0) (worldOf cells b cs)) (sym (charts-kept cells b (ending k) n charts))
 
     open-is : performed (worldOf cells b charts) k ≡ outcomeIn cells b k charts (call cells b true k)
     unfolding performed call
@@ -116,7 +116,7 @@ module _ (cells : ℕ → ℤ) (b : Book) (charts : List ℕ) (k : Call) (range 
   unfolding call worldOf
   closed-is o =
       closed-store (worldOf cells b charts) k right (phase-is b ∙ o) ∙
-      ap (λ (cs : List ℕ). result 5 (pos 0) (worldOf cells b cs)) (sym (charts-kept cells b (ending k) 4 charts)) ∙
+      ap (λ (cs : List ℕ). answered 5 (pos 0) (worldOf cells b cs)) (sym (charts-kept cells b (ending k) 4 charts)) ∙
       ap (λ (u : Bool). outcomeIn cells b k charts (decide cells b k (cond (not u) 5 (refusal b k)))) (sym o)
 
   book-is : performed (worldOf cells b charts) k ≡ outcomeIn cells b k charts (call cells b true k)

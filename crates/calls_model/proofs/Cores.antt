@@ -19,7 +19,7 @@ use Rattle.tables_model.specs.Rows.{Index}
 use Rattle.tables_model.specs.Meaning.{tablesOf, scopeTable, indexOf}
 use Rattle.state.specs.declared.ram.Scope as ram
 use Rattle.state.specs.World.{World, openState, stateOf, tableOf, copyOf, worldOf, scopeOf, cleared}
-use Rattle.state.specs.Contracts.{Result, result}
+use Rattle.state.specs.Contracts.{Answered, answered}
 use Rattle.journal.specs.Journal.{Journal}
 use Rattle.journal.specs.Meaning.{controlOf, journalOf}
 use Rattle.undo.specs.Writing.{Ram, isRunning}
@@ -108,19 +108,19 @@ reaches cells b charts y st same tables = record {
 }
 
 -- what a call gives back and leaves, by the book after it
-abbrev pub settledFor : (ℕ → ℤ) → Book → List ℕ → List ℕ → ℤ → Result
+abbrev pub settledFor : (ℕ → ℤ) → Book → List ℕ → List ℕ → ℤ → Answered
 settledFor cells b given done v = record { answer = ended v b .answer; world = worldOf cells b (cond (b .isOpen) done given) }
 
 pub settled-is : (cells : ℕ → ℤ) (b : Book) → Sound b → (given done : List ℕ) (y : Core) (v z : ℤ) → Reaches cells b given done y
     → (b .isOpen ≡ true → v ≡ z) → settled y v ≡ settledFor cells b given done z
 unfolding settled
 settled-is cells b s given done y v z r value =
-    ap (λ (t : Bool). cond t (result 0 v (worldIn y)) (result 5 (pos 0) (cleared (y .ram .journal .log) (y .charts)))) (r .runs) ∙ go (b .isOpen) refl
+    ap (λ (t : Bool). cond t (answered 0 v (worldIn y)) (answered 5 (pos 0) (cleared (y .ram .journal .log) (y .charts)))) (r .runs) ∙ go (b .isOpen) refl
   where
     go : (t : Bool) → b .isOpen ≡ t
-        → cond t (result 0 v (worldIn y)) (result 5 (pos 0) (cleared (y .ram .journal .log) (y .charts)))
+        → cond t (answered 0 v (worldIn y)) (answered 5 (pos 0) (cleared (y .ram .journal .log) (y .charts)))
         ≡ record { answer = cond t (record { answer = answer 0 z; book = b }) (refused 5 b) .answer; world = worldOf cells b (cond t done given) }
-    go true o = ap₂ (λ (u : ℤ) (w : World). result 0 u w) (value o) (ap worldIn (r .opened o) ∙ world-in cells done b (s .allowed) o)
+    go true o = ap₂ (λ (u : ℤ) (w : World). answered 0 u w) (value o) (ap worldIn (r .opened o) ∙ world-in cells done b (s .allowed) o)
     go false o =
-        ap (result 5 (pos 0))
+        ap (answered 5 (pos 0))
         (ap₂ (λ (log charts : List ℕ). cleared log charts) (r .log) (r .cut o) ∙ world-cleared cells given b o)

@@ -18,7 +18,7 @@ use Rattle.book.proofs.Lists.{and-l, and-r}
 use Rattle.book.proofs.Adds.{passes}
 use Rattle.tables_model.specs.declared.Whom.the-variants.{One}
 use Rattle.state.specs.World.{World, rightLengths, isOpenPhase, cleared}
-use Rattle.state.specs.Contracts.{result}
+use Rattle.state.specs.Contracts.{answered}
 use Rattle.journal.specs.declared.Control.{Control}
 use Rattle.undo.specs.Writing.{rowCount, isRunning, written}
 use Rattle.undo.specs.TakeBack.{Taking}
@@ -97,7 +97,7 @@ module _ (w : World) (k : Call) where
     where
       go : (t : Bool)
           → Valued (w .copy) (returns k)
-          (cond t (result 0 v (worldIn y)) (result 5 (pos 0) (cleared (y .ram .journal .log) (y .charts))) .answer)
+          (cond t (answered 0 v (worldIn y)) (answered 5 (pos 0) (cleared (y .ram .journal .log) (y .charts))) .answer)
       go true = record { accepted = λ e. p; refused = λ h. absurd (h refl) }
       go false = record { accepted = λ e. absurd (omega arith); refused = λ h. refl }
 

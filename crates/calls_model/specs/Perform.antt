@@ -15,7 +15,7 @@ use Rattle.tables_model.specs.Entries.{entries}
 use Rattle.state.specs.declared.ram.State.{State}
 use Rattle.state.specs.declared.ram.Scope.{Scope}
 use Rattle.state.specs.World.{World, rightLengths, isOpenPhase, scopeOf, cleared}
-use Rattle.state.specs.Contracts.{Result, result}
+use Rattle.state.specs.Contracts.{Answered, answered}
 use Rattle.journal.specs.declared.Control.{Control}
 use Rattle.undo.specs.Writing.{isRunning}
 use Rattle.calls_model.specs.declared.Performed.{Performed}
@@ -82,12 +82,12 @@ worldIn x = record {
 }
 
 -- 01, "Power": an accepted call that closed the journal answers 5, and RAM is cleared here and nowhere else
-unfoldable pub settled : Core → ℤ → Result
-settled x v = cond (isRunning (x .ram .journal)) (result 0 v (worldIn x)) (result 5 (pos 0) (cleared (x .ram .journal .log) (x .charts)))
+unfoldable pub settled : Core → ℤ → Answered
+settled x v = cond (isRunning (x .ram .journal)) (answered 0 v (worldIn x)) (answered 5 (pos 0) (cleared (x .ram .journal .log) (x .charts)))
 
-abbrev pub decided : World → Call → ℕ → Result
+abbrev pub decided : World → Call → ℕ → Answered
 decided w k zero = let x : Core = coreOf w in let y : Core = acted x k in settled y (valueBy x y k)
-decided w k (suc n) = result (suc n) (pos 0) w
+decided w k (suc n) = answered (suc n) (pos 0) w
 
 -- every check but that of the lengths, in 01's order
 abbrev pub numberBy : Control → Tables → List Entry → Call → ℕ
@@ -98,12 +98,12 @@ numberBy c t scopes k =
 unfoldable pub numberOf : World → Call → ℕ
 numberOf w k = (1, not (rightLengths w)) else numberBy (controlIn (w .state)) (w .state .tables) (map entryIn (w .scopes)) k
 
-unfoldable pub performed : World → Call → Result
+unfoldable pub performed : World → Call → Answered
 performed w k = decided w k (numberOf w k)
 
 -- the same with the number of entries of the lent table given apart: another number than 64 is a wrong length
-abbrev pub performedAt : ℕ → World → Call → Result
-performedAt n w k = cond (eqb n scopeLimit) (performed w k) (result 1 (pos 0) w)
+abbrev pub performedAt : ℕ → World → Call → Answered
+performedAt n w k = cond (eqb n scopeLimit) (performed w k) (answered 1 (pos 0) w)
 
 -- ── What the functions are handed, leave and ask ──────────────────────────────────────────────────────────────────────
 
@@ -112,17 +112,17 @@ abbrev pub world : State → List ℕ → List ℕ → List ℕ → List Scope �
 world s log charts copy table = record { state = s; log = log; charts = charts; copy = copy; scopes = table }
 
 -- what the code's struct says, with the buffers beside it
-abbrev pub performedOf : Performed → List ℕ → List ℕ → List ℕ → Result
-performedOf r log charts copy = result (r .number) (r .value) (world (r .state) log charts copy (r .table))
+abbrev pub performedOf : Performed → List ℕ → List ℕ → List ℕ → Answered
+performedOf r log charts copy = answered (r .number) (r .value) (world (r .state) log charts copy (r .table))
 
 -- the same of a call that has no use for the table, with a table beside it
-abbrev pub freeOf : PerformedFree → List ℕ → List ℕ → List ℕ → List Scope → Result
-freeOf r log charts copy table = result (r .number) (r .value) (world (r .state) log charts copy table)
+abbrev pub freeOf : PerformedFree → List ℕ → List ℕ → List ℕ → List Scope → Answered
+freeOf r log charts copy table = answered (r .number) (r .value) (world (r .state) log charts copy table)
 
 -- The call on a table of unused entries comes to r, but for the table that it leaves.
 abbrev pub ComesTo : ℕ → State → List ℕ → List ℕ → List ℕ → Call → PerformedFree → List ℕ → List ℕ → List ℕ → Type 0
 ComesTo n s log charts copy k r log′ charts′ copy′ =
-    let given : Result = performedAt n (world s log charts copy (replicate scopeLimit (scopeOf unused))) k in
+    let given : Answered = performedAt n (world s log charts copy (replicate scopeLimit (scopeOf unused))) k in
     freeOf r log′ charts′ copy′ (given .world .scopes) ≡ given
 
 -- the state by where the journal stands, the tables and the tail
@@ -130,12 +130,12 @@ abbrev pub stateAfter : Control → Tables → List ℕ → State
 stateAfter c t tail = record { phase = c .phase; fuse = c .fuse; stored = c .stored; waiting = c .waiting; tables = t; tail = tail }
 
 -- the same of a call that works in place, with the tail and the flat table beside it
-abbrev pub doneOf : Done → List ℕ → List ℕ → List ℕ → List ℕ → List ℕ → Result
+abbrev pub doneOf : Done → List ℕ → List ℕ → List ℕ → List ℕ → List ℕ → Answered
 doneOf r log charts copy tail flat =
-    result (r .number) (r .value) (world (stateAfter (r .control) (r .tables) tail) log charts copy (map structOf (entries flat)))
+    answered (r .number) (r .value) (world (stateAfter (r .control) (r .tables) tail) log charts copy (map structOf (entries flat)))
 
 -- a call that no check refuses
-abbrev pub accepted : Core → Call → Result
+abbrev pub accepted : Core → Call → Answered
 accepted x k = let y : Core = acted x k in settled y (valueBy x y k)
 
 -- the lent bytes have their lengths

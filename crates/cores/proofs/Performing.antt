@@ -18,7 +18,7 @@ use Rattle.book.specs.Book.{Answer, answer}
 use Rattle.state.specs.declared.ram.State.{State}
 use Rattle.state.specs.declared.ram.Scope.{Scope}
 use Rattle.state.specs.World.{World}
-use Rattle.state.specs.Contracts.{Result, result, numbers, CallPost}
+use Rattle.state.specs.Contracts.{Answered, answered, numbers, CallPost}
 use Rattle.calls_model.specs.Perform.{performed, performedAt}
 use Rattle.calls_model.proofs.AnyWorld.{number-listed, wrong-lengths}
 use Rattle.calls_model.proofs.Values.{UpTo, Returned, performed-valued}
@@ -29,7 +29,7 @@ use Rattle.cores.specs.Lent.{world, ByValue}
 -- ── Numbers and values ────────────────────────────────────────────────────────────────────────────────────────────────
 
 -- the answer of a result, as the call's own answer asks it
-abbrev pub Tells : Call → Result → Type 0
+abbrev pub Tells : Call → Answered → Type 0
 Tells k r = Answered (numbers k) (Fitting (returns k)) (r .answer .number) (r .answer .value)
 
 -- visits and rows have 16 bits
@@ -51,7 +51,7 @@ tells-performed w k =
       fits = λ e. fitting (w .copy) (returns k) (performed w k .answer .value) (v .accepted e);
     }
 
-tells-lengths : (w : World) (k : Call) → Tells k (result 1 (pos 0) w)
+tells-lengths : (w : World) (k : Call) → Tells k (answered 1 (pos 0) w)
 tells-lengths w k = record { table = listed k; refused = λ h. refl; fits = λ e. absurd (omega arith) }
   where
     listed : (c : Call) → member 1 (numbers c) ≡ true
@@ -67,42 +67,42 @@ tells-lengths w k = record { table = listed k; refused = λ h. refl; fits = λ e
 pub tells : (n : ℕ) (w : World) (k : Call) → Tells k (performedAt n w k)
 tells n w k = go (eqb n scopeLimit)
   where
-    go : (t : Bool) → Tells k (cond t (performed w k) (result 1 (pos 0) w))
+    go : (t : Bool) → Tells k (cond t (performed w k) (answered 1 (pos 0) w))
     go true = tells-performed w k
     go false = tells-lengths w k
 
 -- ── The promise ───────────────────────────────────────────────────────────────────────────────────────────────────────
 
 -- what a result promises
-abbrev pub Kept : Call → World → Result → Type 0
+abbrev pub Kept : Call → World → Answered → Type 0
 Kept k w r = CallPost k w (r .answer) (r .world)
 
 -- a table of another length is refused by 1
-pub kept-lengths : (k : Call) → Typed k → (w : World) → length (w .scopes) ≢ scopeLimit → Kept k w (result 1 (pos 0) w)
+pub kept-lengths : (k : Call) → Typed k → (w : World) → length (w .scopes) ≢ scopeLimit → Kept k w (answered 1 (pos 0) w)
 kept-lengths k t w ne =
     let others : Bool = eqb (length (w .log)) logLength && eqb (length (w .charts)) chartsLength && eqb (length (w .copy)) chartsLength in
-    subst (λ (r : Result). Kept k w r) (wrong-lengths w k (rw (ne-eqb (length (w .scopes)) scopeLimit ne) (and-false others))) (performed-post w k t)
+    subst (λ (r : Answered). Kept k w r) (wrong-lengths w k (rw (ne-eqb (length (w .scopes)) scopeLimit ne) (and-false others))) (performed-post w k t)
 
 module _ {number : ℕ} {value : ℤ} (s : State) (log charts copy : List ℕ) (n : ℕ) (t : List Scope) (k : Call)
-    (s′ : State) (log′ charts′ copy′ : List ℕ) (t′ : List Scope) (e : result number value (world s′ log′ charts′ copy′ t′) ≡ performedAt n (world s log charts copy t) k) where
+    (s′ : State) (log′ charts′ copy′ : List ℕ) (t′ : List Scope) (e : answered number value (world s′ log′ charts′ copy′ t′) ≡ performedAt n (world s log charts copy t) k) where
   -- the number and the value fit the call's own answer
   pub answered : Answered (numbers k) (Fitting (returns k)) number value
-  answered = subst (λ (r : Result). Tells k r) (sym e) (tells n (world s log charts copy t) k)
+  answered = subst (λ (r : Answered). Tells k r) (sym e) (tells n (world s log charts copy t) k)
 
 module _ {number : ℕ} {value : ℤ} (s : State) (log charts copy : List ℕ) (n : ℕ) (t : List Scope) (k : Call) (typed : Typed k)
-    (s′ : State) (log′ charts′ copy′ : List ℕ) (t′ : List Scope) (e : result number value (world s′ log′ charts′ copy′ t′) ≡ performedAt n (world s log charts copy t) k) where
+    (s′ : State) (log′ charts′ copy′ : List ℕ) (t′ : List Scope) (e : answered number value (world s′ log′ charts′ copy′ t′) ≡ performedAt n (world s log charts copy t) k) where
   -- another number of entries than 64: refused by 1, and nothing changes
   pub kept-apart : n ≢ scopeLimit → (ys : List Scope) → length ys ≡ n → CallPost k (world s log charts copy ys) (answer number value) (world s′ log′ charts′ copy′ ys)
   kept-apart ne ys l =
-      let same : result number value (world s′ log′ charts′ copy′ t′) ≡ result 1 (pos 0) (world s log charts copy t) = rw (ne-eqb n scopeLimit ne) at e in
-      subst (λ (r : Result). CallPost k (world s log charts copy ys) (r .answer) (world (r .world .state) (r .world .log) (r .world .charts) (r .world .copy) ys))
+      let same : answered number value (world s′ log′ charts′ copy′ t′) ≡ answered 1 (pos 0) (world s log charts copy t) = rw (ne-eqb n scopeLimit ne) at e in
+      subst (λ (r : Answered). CallPost k (world s log charts copy ys) (r .answer) (world (r .world .state) (r .world .log) (r .world .charts) (r .world .copy) ys))
       (sym same) (kept-lengths k typed (world s log charts copy ys) (λ h. ne (sym l ∙ h)))
 
   -- 64 entries: as performed
   kept-whole : n ≡ scopeLimit → CallPost k (world s log charts copy t) (answer number value) (world s′ log′ charts′ copy′ t′)
   kept-whole h =
-      let same : result number value (world s′ log′ charts′ copy′ t′) ≡ performed (world s log charts copy t) k = rw (eq-eqb n scopeLimit h) at e in
-      subst (λ (r : Result). Kept k (world s log charts copy t) r) (sym same) (performed-post (world s log charts copy t) k typed)
+      let same : answered number value (world s′ log′ charts′ copy′ t′) ≡ performed (world s log charts copy t) k = rw (eq-eqb n scopeLimit h) at e in
+      subst (λ (r : Answered). Kept k (world s log charts copy t) r) (sym same) (performed-post (world s log charts copy t) k typed)
 
   -- the promise of a core, with the answer that has this number and value
   pub by-value : {a : Answer} → a ≡ answer number value

@@ -25,7 +25,7 @@ use Rattle.state.specs.declared.ram.State.{State}
 use Rattle.state.specs.declared.ram.Scope.{Scope}
 use Rattle.state.specs.World.{World, isOpenPhase, scopeOf, tableOf, worldOf, Represents}
 use Rattle.state.specs.World as worlds
-use Rattle.state.specs.Contracts.{Result, result, byBook, CallPost}
+use Rattle.state.specs.Contracts.{Answered, answered, byBook, CallPost}
 use Rattle.undo.specs.Writing.{isRunning}
 use Rattle.calls_model.specs.Refusals.{refusalBy}
 use Rattle.calls_model.specs.Acts.{Core, acted, valueBy}
@@ -74,11 +74,11 @@ module _ (s : State) (log charts copy : List ℕ) where
 
   -- what the call comes to, for every table of 64 entries alike: refused, done with a table that is read and written again, or cut
   data Comes (k : Call) : Type 0 where
-    refuses : (n : ℕ) → ((ys : List Scope) → length ys ≡ scopeLimit → performed (at ys) k ≡ result (suc n) (pos 0) (at ys)) → Comes k
+    refuses : (n : ℕ) → ((ys : List Scope) → length ys ≡ scopeLimit → performed (at ys) k ≡ answered (suc n) (pos 0) (at ys)) → Comes k
     accepts : (v : ℤ) (s′ : State) (log′ charts′ copy′ : List ℕ) → isOpenPhase (s′ .phase) ≡ true
-        → ((ys : List Scope) → length ys ≡ scopeLimit → performed (at ys) k ≡ result 0 v (world s′ log′ charts′ copy′ (map structOf (map entryIn ys)))) → Comes k
+        → ((ys : List Scope) → length ys ≡ scopeLimit → performed (at ys) k ≡ answered 0 v (world s′ log′ charts′ copy′ (map structOf (map entryIn ys)))) → Comes k
     cuts : (log′ charts′ : List ℕ) → isOpenPhase (s .phase) ≡ true
-        → ((ys : List Scope) → length ys ≡ scopeLimit → performed (at ys) k ≡ result 5 (pos 0) (worlds.cleared log′ charts′)) → Comes k
+        → ((ys : List Scope) → length ys ≡ scopeLimit → performed (at ys) k ≡ answered 5 (pos 0) (worlds.cleared log′ charts′)) → Comes k
 
   comes : {k : Call} → Free k → Comes k
   unfolding performed coreOf settled worldIn
@@ -155,19 +155,19 @@ table-stays {k} free cells b sound = shut (b .isOpen) refl
 
 module _ {k : Call} (free : Free k) (w : World) (v : ℤ) (s′ : State) (log′ charts′ copy′ : List ℕ) (zs : List Scope)
     (p : CallPost k w (answer 0 v) (world s′ log′ charts′ copy′ zs)) where
-  number-of : (n : ℕ) (u : ℤ) (x : World) → result 0 v (world s′ log′ charts′ copy′ zs) ≡ result n u x → 0 ≡ n
-  number-of n u x e = ap (λ (r : Result). r .answer .number) e
+  number-of : (n : ℕ) (u : ℤ) (x : World) → answered 0 v (world s′ log′ charts′ copy′ zs) ≡ answered n u x → 0 ≡ n
+  number-of n u x e = ap (λ (r : Answered). r .answer .number) e
 
   by-book : worlds.rightLengths w ≡ true → (cells : ℕ → ℤ) (b : Book) → Represents cells b w
-      → result 0 v (world s′ log′ charts′ copy′ (w .scopes)) ≡ byBook cells b k w
+      → answered 0 v (world s′ log′ charts′ copy′ (w .scopes)) ≡ byBook cells b k w
   unfolding byBook worldOf
   by-book l cells b r =
-      let e : result 0 v (world s′ log′ charts′ copy′ zs) ≡ byBook cells b k w = p .is l cells b r in
+      let e : answered 0 v (world s′ log′ charts′ copy′ zs) ≡ byBook cells b k w = p .is l cells b r in
       let o : Outcome = call cells b true k in
       let x : World = byBook cells b k w .world in
       let kept : w .scopes ≡ tableOf (o .book) =
-      ap (λ (x : World). x .scopes) (r .is) ∙ sym (table-stays free cells b (r .sound) (sym (ap (λ (q : Result). q .answer .number) e))) in
-      ap (λ (q : Result). record { answer = q .answer; world = world (q .world .state) (q .world .log) (q .world .charts) (q .world .copy) (w .scopes) }) e ∙
+      ap (λ (x : World). x .scopes) (r .is) ∙ sym (table-stays free cells b (r .sound) (sym (ap (λ (q : Answered). q .answer .number) e))) in
+      ap (λ (q : Answered). record { answer = q .answer; world = world (q .world .state) (q .world .log) (q .world .charts) (q .world .copy) (w .scopes) }) e ∙
       ap (λ (ys : List Scope). record { answer = o .answer; world = world (x .state) (x .log) (x .charts) (x .copy) ys }) kept
 
   pub same-table : CallPost k w (answer 0 v) (world s′ log′ charts′ copy′ (w .scopes))
@@ -192,12 +192,12 @@ and-not false = refl
 
 module _ {number : ℕ} {v : ℤ} (s : State) (log charts copy : List ℕ) (n : ℕ) {k : Call} (free : Free k) (typed : Typed k)
     (s′ : State) (log′ charts′ copy′ : List ℕ) (t′ : List Scope)
-    (e : result number v (world s′ log′ charts′ copy′ t′) ≡ performedAt n (world s log charts copy blanks) k) where
+    (e : answered number v (world s′ log′ charts′ copy′ t′) ≡ performedAt n (world s log charts copy blanks) k) where
   kept-table : ByLength (λ given leaves. CallPost k given (answer number v) leaves) (world s log charts copy) n (world s′ log′ charts′ copy′) (cutBetween s s′)
   kept-table ys l = go (eqb n scopeLimit) refl
     where
       -- the promise of a result with the table ys
-      Promised : Result → Type 0
+      Promised : Answered → Type 0
       Promised r = CallPost k (world s log charts copy ys) (r .answer) (world (r .world .state) (r .world .log) (r .world .charts) (r .world .copy) (tableLeft ys (cutBetween s (r .world .state))))
 
       kept : Kept k (world s log charts copy ys) (performed (world s log charts copy ys) k)

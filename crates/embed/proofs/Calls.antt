@@ -13,7 +13,7 @@ use Rattle.book.specs.Book.{Answer, answer}
 use Rattle.tables_model.specs.declared.Tables.{Tables}
 use Rattle.tables_model.specs.Entries.{entries}
 use Rattle.state.specs.World.{World, rightLengths}
-use Rattle.state.specs.Contracts.{Result, CallPost}
+use Rattle.state.specs.Contracts.{Answered, CallPost}
 use Rattle.journal.specs.declared.Control.{Control}
 use Rattle.calls_model.specs.declared.Done.{Done}
 use Rattle.calls_model.specs.Acts.{core}
@@ -52,7 +52,7 @@ wrong-charts ram log charts e other = rw (eq-eqb (length log) 65536 e, ne-eqb (l
 
 pub wrong-post : (k : Call) → Typed k → (w : World) (a : Answer) → a ≡ answer 1 (pos 0) → rightLengths w ≡ false → CallPost k w a w
 wrong-post k typed w a says e =
-    rw says (subst (λ (r : Result). CallPost k w (r .answer) (r .world)) (wrong-lengths w k e) (performed-post w k typed))
+    rw says (subst (λ (r : Answered). CallPost k w (r .answer) (r .world)) (wrong-lengths w k e) (performed-post w k typed))
 
 -- ── Right lengths ─────────────────────────────────────────────────────────────────────────────────────────────────────
 
@@ -74,7 +74,7 @@ module _ (k : Call) (typed : Typed k) (ram log charts : List ℕ) (long : length
   unfolding performed
   refused-post other says =
       rw says
-      (subst (λ (r : Result). CallPost k given (r .answer) (r .world)) (sym (when-refused given k n (numberOf given k) numbered other)) (performed-post given k typed))
+      (subst (λ (r : Answered). CallPost k given (r .answer) (r .world)) (sym (when-refused given k n (numberOf given k) numbered other)) (performed-post given k typed))
 
   -- none does
   module _ (free : n ≡ 0) {tail : List ℕ} (rows : tail ≡ stateOf ram .tail) (d : Done) (log′ charts′ ys tail′ flat′ : List ℕ)
@@ -86,7 +86,7 @@ module _ (k : Call) (typed : Typed k) (ram log charts : List ℕ) (long : length
         when-accepted (stateOf ram) log charts (copyOf ram) (tableOf ram) flat k (numberOf given k) scopes (sym numbered ∙ free)
 
     left : CallPost k given (answer (d .number) (d .value)) (world (stateAfter (d .control) (d .tables) tail′) log′ charts′ ys (map structOf (entries flat′)))
-    left = subst (λ (r : Result). CallPost k given (r .answer) (r .world)) (sym is-performed) (performed-post given k typed)
+    left = subst (λ (r : Answered). CallPost k given (r .answer) (r .world)) (sym is-performed) (performed-post given k typed)
 
     pub accepted-post : length ys ≡ 1024 → {ram′ : List ℕ} → Put (over 1880 1024 ys ram) ram′ (d .control) (d .tables) tail′ flat′
         → {a : Answer} → a ≡ answer (d .number) (d .value) → CallPost k given a (worldIn ram′ log′ charts′)

@@ -18,7 +18,7 @@ use Rattle.book.specs.Opening.{openBytes}
 use Rattle.state.specs.declared.ram.State.{State}
 use Rattle.state.specs.declared.ram.Scope.{Scope}
 use Rattle.state.specs.World.{World, rightLengths, cleared}
-use Rattle.state.specs.Contracts.{Result, result, badCell, cellsOf, formats, opens, openedWorld, FormatPost, OpenPost}
+use Rattle.state.specs.Contracts.{Answered, answered, badCell, cellsOf, formats, opens, openedWorld, FormatPost, OpenPost}
 use Rattle.calls_model.specs.Perform.{world}
 use Rattle.cores.specs.Lent.{tableLeft}
 use Rattle.block.specs.Fields.{blanks}
@@ -53,10 +53,10 @@ module _ (ram log charts : List ℕ) (long : length ram ≡ 2904) (s₀ : State)
     bad = badCell values
 
     -- what format comes to by its two tests
-    abbrev shape : Bool → World → Result
+    abbrev shape : Bool → World → Answered
     shape wrong w =
-        cond wrong (result 1 (pos 0) w)
-        (cond (ltb bad 224) (result 2 (pos bad) w) (result 0 (pos 0) (cleared (logBytes []) (chartBytes (pageAfter (cellsOf values) [])))))
+        cond wrong (answered 1 (pos 0) w)
+        (cond (ltb bad 224) (answered 2 (pos bad) w) (answered 0 (pos 0) (cleared (logBytes []) (chartBytes (pageAfter (cellsOf values) [])))))
 
     abbrev wrong : Bool → Bool
     wrong right = not (right && eqb (length values) 224)
@@ -65,20 +65,20 @@ module _ (ram log charts : List ℕ) (long : length ram ≡ 2904) (s₀ : State)
     unfolding formats
     formatted = rw (still-blank clears) at (h blanks refl .is)
 
-    again : (x : Result) → x ≡ shape (wrong (rightLengths unused)) (worldIn ram log charts) → x ≡ formats values (worldIn ram log charts)
+    again : (x : Answered) → x ≡ shape (wrong (rightLengths unused)) (worldIn ram log charts) → x ≡ formats values (worldIn ram log charts)
     unfolding formats
     again x e = e ∙ ap (λ (right : Bool). shape (wrong right) (worldIn ram log charts)) same-lengths
 
     -- it refuses: nothing changes
     kept : (t u : Bool) (w : World)
         → record { answer = a; world = left } ≡
-        cond t (result 1 (pos 0) unused) (cond u (result 2 (pos bad) unused) (result 0 (pos 0) (cleared (logBytes []) (chartBytes (pageAfter (cellsOf values) [])))))
+        cond t (answered 1 (pos 0) unused) (cond u (answered 2 (pos bad) unused) (answered 0 (pos 0) (cleared (logBytes []) (chartBytes (pageAfter (cellsOf values) [])))))
         → a .number ≢ 0
         → (left ≡ unused) × (record { answer = a; world = w } ≡
-        cond t (result 1 (pos 0) w) (cond u (result 2 (pos bad) w) (result 0 (pos 0) (cleared (logBytes []) (chartBytes (pageAfter (cellsOf values) []))))))
-    kept true u w e ne = (ap (λ (r : Result). r .world) e, ap (λ (r : Result). record { answer = r .answer; world = w }) e)
-    kept false true w e ne = (ap (λ (r : Result). r .world) e, ap (λ (r : Result). record { answer = r .answer; world = w }) e)
-    kept false false w e ne = absurd (ne (ap (λ (r : Result). r .answer .number) e))
+        cond t (answered 1 (pos 0) w) (cond u (answered 2 (pos bad) w) (answered 0 (pos 0) (cleared (logBytes []) (chartBytes (pageAfter (cellsOf values) []))))))
+    kept true u w e ne = (ap (λ (r : Answered). r .world) e, ap (λ (r : Answered). record { answer = r .answer; world = w }) e)
+    kept false true w e ne = (ap (λ (r : Answered). r .world) e, ap (λ (r : Answered). record { answer = r .answer; world = w }) e)
+    kept false false w e ne = absurd (ne (ap (λ (r : Answered). r .answer .number) e))
 
     pub format-refused : {r : Answer} → r ≡ a → a .number ≢ 0 → FormatPost values (worldIn ram log charts) r (worldIn (over 1880 1024 ys ram) log′ charts′)
     unfolding worldIn
@@ -91,12 +91,12 @@ module _ (ram log charts : List ℕ) (long : length ram ≡ 2904) (s₀ : State)
     -- it is done
     made : (t u : Bool) (w : World)
         → record { answer = a; world = left } ≡
-        cond t (result 1 (pos 0) unused) (cond u (result 2 (pos bad) unused) (result 0 (pos 0) (cleared (logBytes []) (chartBytes (pageAfter (cellsOf values) [])))))
+        cond t (answered 1 (pos 0) unused) (cond u (answered 2 (pos bad) unused) (answered 0 (pos 0) (cleared (logBytes []) (chartBytes (pageAfter (cellsOf values) [])))))
         → a .number ≡ 0
         → record { answer = a; world = left } ≡
-        cond t (result 1 (pos 0) w) (cond u (result 2 (pos bad) w) (result 0 (pos 0) (cleared (logBytes []) (chartBytes (pageAfter (cellsOf values) [])))))
-    made true u w e z = let one : a .number ≡ 1 = ap (λ (r : Result). r .answer .number) e in absurd (omega arith)
-    made false true w e z = let two : a .number ≡ 2 = ap (λ (r : Result). r .answer .number) e in absurd (omega arith)
+        cond t (answered 1 (pos 0) w) (cond u (answered 2 (pos bad) w) (answered 0 (pos 0) (cleared (logBytes []) (chartBytes (pageAfter (cellsOf values) [])))))
+    made true u w e z = let one : a .number ≡ 1 = ap (λ (r : Answered). r .answer .number) e in absurd (omega arith)
+    made false true w e z = let two : a .number ≡ 2 = ap (λ (r : Answered). r .answer .number) e in absurd (omega arith)
     made false false w e z = e
 
     pub format-done : {r : Answer} → r ≡ a → a .number ≡ 0 → {ram′ : List ℕ} → Cleared (over 1880 1024 ys ram) ram′ s
@@ -119,15 +119,15 @@ module _ (ram log charts : List ℕ) (long : length ram ≡ 2904) (s₀ : State)
     right : rightLengths unused ≡ true
     right = rw (eq-eqb _ _ l, eq-eqb _ _ m, eq-eqb _ _ (part-long 1880 1024 ram (omega (arith, long))))
 
-    opened : record { answer = a; world = world s log′ charts′ ys blanks } ≡ cond (rightLengths unused) (openedWorld charts (openBytes f log charts)) (result 1 (pos 0) unused)
+    opened : record { answer = a; world = world s log′ charts′ ys blanks } ≡ cond (rightLengths unused) (openedWorld charts (openBytes f log charts)) (answered 1 (pos 0) unused)
     unfolding opens
     opened = rw (still-blank clears) at (h blanks refl .is)
 
     same : record { answer = a; world = world s log′ charts′ ys blanks } ≡ opens f (worldIn ram log charts)
     unfolding opens worldIn
     same =
-        opened ∙ ap (λ (t : Bool). cond t (openedWorld charts (openBytes f log charts)) (result 1 (pos 0) unused)) right ∙
-        ap (λ (t : Bool). cond t (openedWorld charts (openBytes f log charts)) (result 1 (pos 0) (worldIn ram log charts))) (sym (sym same-lengths ∙ right))
+        opened ∙ ap (λ (t : Bool). cond t (openedWorld charts (openBytes f log charts)) (answered 1 (pos 0) unused)) right ∙
+        ap (λ (t : Bool). cond t (openedWorld charts (openBytes f log charts)) (answered 1 (pos 0) (worldIn ram log charts))) (sym (sym same-lengths ∙ right))
 
     pub open-done : {r : Answer} → r ≡ a → {ram′ : List ℕ} → Cleared (over 1880 1024 ys ram) ram′ s → OpenPost f (worldIn ram log charts) r (worldIn ram′ log′ charts′)
     open-done says {ram′} put = rw (says, world-held ram long ys y ram′ log′ charts′ s blanks put) (record { is = same })

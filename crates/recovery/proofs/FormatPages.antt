@@ -18,7 +18,7 @@ use Rattle.book.specs.Scopes.{unused}
 use Rattle.charts.specs.Build.{fromCells}
 use Rattle.state.specs.declared.ram.State.{State}
 use Rattle.state.specs.World.{World, rightLengths, scopeOf, closedState, cleared}
-use Rattle.state.specs.Contracts.{result, badCell, cellsOf, formats}
+use Rattle.state.specs.Contracts.{answered, badCell, cellsOf, formats}
 
 -- page p of the values
 abbrev pub pageOfCells : List ℤ → ℕ → List ℕ
@@ -50,11 +50,11 @@ pub no-cells : (n : ℕ) (bs : List ℕ) → bs ≡ replicate n 0 → n ≡ 1024
 no-cells n bs e h = e ∙ ap (λ (k : ℕ). replicate k 0) h
 
 pub all-cleared : (s : State) (log charts copy newLog newCharts : List ℕ) → s ≡ closedState → log ≡ newLog → charts ≡ newCharts → copy ≡ noCopy
-    → result 0 (pos 0) (record { state = s; log = log; charts = charts; copy = copy; scopes = replicate 64 (scopeOf unused) })
-    ≡ result 0 (pos 0) (cleared newLog newCharts)
+    → answered 0 (pos 0) (record { state = s; log = log; charts = charts; copy = copy; scopes = replicate 64 (scopeOf unused) })
+    ≡ answered 0 (pos 0) (cleared newLog newCharts)
 all-cleared s log charts copy newLog newCharts e f g h = rw (e, f, g, h)
 
 pub formats-done : (values : List ℤ) (w : World) → rightLengths w ≡ true → length values ≡ 224 → 224 ≤ badCell values
-    → formats values w ≡ result 0 (pos 0) (cleared (logBytes []) (chartBytes (pageAfter (cellsOf values) [])))
+    → formats values w ≡ answered 0 (pos 0) (cleared (logBytes []) (chartBytes (pageAfter (cellsOf values) [])))
 unfolding formats
 formats-done values w l n k = rw (l, eq-eqb (length values) 224 n, le-ltb (badCell values) 224 k)

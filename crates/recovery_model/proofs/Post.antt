@@ -28,7 +28,7 @@ use Rattle.book.proofs.OpenBytes.{open-bytes}
 use Rattle.book.proofs.ReopenedBytes.{open-passed}
 use Rattle.state.specs.declared.ram.Fuse.{Fuse}
 use Rattle.state.specs.World.{World, rightLengths, allowance, stateOf, tableOf, cleared}
-use Rattle.state.specs.Contracts.{result, openedWorld, opens, OpenPost}
+use Rattle.state.specs.Contracts.{answered, openedWorld, opens, OpenPost}
 use Rattle.tables_model.specs.Meaning.{indexOf}
 use Rattle.recovery_model.specs.Scan.{Scanned, scanned}
 use Rattle.recovery_model.specs.Charts.{badPageBy, redoCharts}
@@ -86,7 +86,7 @@ module _ (f : Fuse) (charts : List ℕ) (long : length charts ≡ chartsLength) 
       s = record { rows = length rs; bad = 0; index = indexOf (ledger rs) }
 
       go : (t : Bool) → ltb (badPage rs charts) 32 ≡ t
-          → cond t (result 4 (pos (badPage rs charts)) (cleared (logBytes rs) charts)) (recoveredBy f (logBytes rs) charts s)
+          → cond t (answered 4 (pos (badPage rs charts)) (cleared (logBytes rs) charts)) (recoveredBy f (logBytes rs) charts s)
           ≡ openedWorld charts (cond t (rejected 4 (badPage rs charts) (logBytes rs)) (recovered charts (reopen (allowance f) rs)))
       go true e = refl
       go false e = recovered-is rs al (let k = ltb-false (badPage rs charts) 32 e in omega (arith, first-within 32 0 (λ p. isPage rs p (pageAt charts p))))
@@ -95,10 +95,10 @@ module _ (f : Fuse) (charts : List ℕ) (long : length charts ≡ chartsLength) 
   bad-is : (log : List ℕ) (s : Scanned) (n : ℕ) → s .bad ≡ n → 1 ≤ n → checkedBy f log charts s ≡ openedWorld charts (rejected 3 n log)
   unfolding stateOf tableOf
   bad-is log s n e h =
-      ap (λ (t : Bool). cond (not t) (result 3 (pos (s .bad)) (cleared log charts))
-      (cond (ltb (badPageBy log (s .rows) charts) pageLimit) (result 4 (pos (badPageBy log (s .rows) charts)) (cleared log charts)) (recoveredBy f log charts s)))
+      ap (λ (t : Bool). cond (not t) (answered 3 (pos (s .bad)) (cleared log charts))
+      (cond (ltb (badPageBy log (s .rows) charts) pageLimit) (answered 4 (pos (badPageBy log (s .rows) charts)) (cleared log charts)) (recoveredBy f log charts s)))
       (ne-eqb (s .bad) 0 (λ q. omega arith)) ∙
-      ap (λ (k : ℕ). result 3 (pos k) (cleared log charts)) e
+      ap (λ (k : ℕ). answered 3 (pos k) (cleared log charts)) e
 
   any-log : (log : List ℕ) → length log ≡ logLength → checkedBy f log charts (scanned log noIndex) ≡ openedWorld charts (openBytes (allowance f) log charts)
   unfolding openBytes Demand2Reading
@@ -118,8 +118,8 @@ pub opens-by : (f : Fuse) (w : World) → AreBytes (w .charts) → opensBy f w �
 unfolding opensBy opens
 opens-by f w bytes = go (rightLengths w) refl
   where
-    go : (t : Bool) → rightLengths w ≡ t → cond t (checkedBy f (w .log) (w .charts) (scanned (w .log) noIndex)) (result 1 (pos 0) w)
-        ≡ cond t (openedWorld (w .charts) (openBytes (allowance f) (w .log) (w .charts))) (result 1 (pos 0) w)
+    go : (t : Bool) → rightLengths w ≡ t → cond t (checkedBy f (w .log) (w .charts) (scanned (w .log) noIndex)) (answered 1 (pos 0) w)
+        ≡ cond t (openedWorld (w .charts) (openBytes (allowance f) (w .log) (w .charts))) (answered 1 (pos 0) w)
     go true e =
         let log : eqb (length (w .log)) logLength ≡ true = search (and-l, and-r) in
         let charts : eqb (length (w .charts)) chartsLength ≡ true = search (and-l, and-r) in

@@ -27,7 +27,7 @@ use Rattle.book.proofs.Force.{reopened-empty}
 use Rattle.book.proofs.Openings.{reopened-stored}
 use Rattle.book.proofs.OpenBytes.{byTheBook}
 use Rattle.state.specs.World.{fuseOf, scopeOf, stateOf, tableOf}
-use Rattle.state.specs.Contracts.{Result, result, openedWorld}
+use Rattle.state.specs.Contracts.{Answered, answered, openedWorld}
 use Rattle.state.specs.declared.ram.Phase.the-variants.{Open}
 use Rattle.state.specs.declared.ram.Scope as ram
 use Rattle.tables_model.specs.declared.Tables.{Tables}
@@ -63,8 +63,8 @@ module _ (l : Ledger) (none : l .active ≡ []) where
 -- ── The answer and the world ──────────────────────────────────────────────────────────────────────────────────────────
 
 -- a ready opening that leaves this book, by what has to be shown of it
-abbrev ready : Book → List ℕ → ℕ → Tables → List ℕ → List ram.Scope → Result
-ready b charts written tables copy scopes = result 0 (pos written) (record {
+abbrev ready : Book → List ℕ → ℕ → Tables → List ℕ → List ram.Scope → Answered
+ready b charts written tables copy scopes = answered 0 (pos written) (record {
   state = record {
     phase = Open;
     fuse = fuseOf (b .fuse);

@@ -9,7 +9,7 @@ use Rattle.state.specs.declared.ram.State.{State}
 use Rattle.state.specs.declared.ram.Scope.{Scope}
 use Rattle.state.specs.World.{World, scopeOf}
 use Rattle.state.specs.Answers.{ofFormatted, ofOpened}
-use Rattle.state.specs.Contracts.{Result}
+use Rattle.state.specs.Contracts.{Answered}
 use Rattle.journal.specs.declared.Control.{Control}
 use Rattle.recovery_model.specs.declared.FormatOut.{FormatOut}
 use Rattle.recovery_model.specs.declared.OpenOut.{OpenOut}
@@ -22,13 +22,13 @@ world state log charts copy scopes = record { state = state; log = log; charts =
 abbrev pub tableAfter : Bool → List Scope → List Scope
 tableAfter clears table = cond clears (replicate scopeLimit (scopeOf unused)) table
 
-abbrev pub formatted : FormatOut → List ℕ → List ℕ → List ℕ → List Scope → Result
+abbrev pub formatted : FormatOut → List ℕ → List ℕ → List ℕ → List Scope → Answered
 formatted r log charts copy table = record {
   answer = ofFormatted (r .answer);
   world = world (r .state) log charts copy (tableAfter (r .clears) table);
 }
 
-abbrev pub opened : OpenOut → List ℕ → List ℕ → List ℕ → List Scope → Result
+abbrev pub opened : OpenOut → List ℕ → List ℕ → List ℕ → List Scope → Answered
 opened r log charts copy table = record {
   answer = ofOpened (r .answer);
   world = world (r .state) log charts copy (tableAfter (r .clears) table);

@@ -9,7 +9,7 @@ use Rattle.book.specs.Limits.{activeLimit, scopeLimit, pageLimit}
 use Rattle.book.specs.Scopes.{unused}
 use Rattle.state.specs.declared.ram.Fuse.{Fuse}
 use Rattle.state.specs.World.{World, rightLengths, scopeOf, cleared, noTables}
-use Rattle.state.specs.Contracts.{Result, result}
+use Rattle.state.specs.Contracts.{Answered, answered}
 use Rattle.tables_model.specs.declared.Tables.{Tables}
 use Rattle.tables_model.specs.Visits.{vacant}
 use Rattle.tables_model.specs.Rows.{Index}
@@ -28,11 +28,11 @@ abbrev pub noneActive : ℕ → Tables
 noneActive begun = record { begun = begun; active = replicate activeLimit vacant; count = 0; used = 0 }
 
 -- 01, "Power": RAM is cleared here and nowhere else. A ready opening answers the rows that it wrote.
-unfoldable pub settledOpening : ℕ → ℕ → Ram → List ℕ → Result
+unfoldable pub settledOpening : ℕ → ℕ → Ram → List ℕ → Answered
 settledOpening rows begun m charts =
     let j : Journal = m .journal in
     cond (isRunning j)
-    (result 0 (pos (rowCount j - rows)) (record {
+    (answered 0 (pos (rowCount j - rows)) (record {
       state = record {
         phase = j .control .phase;
         fuse = j .control .fuse;
@@ -46,18 +46,18 @@ settledOpening rows begun m charts =
       copy = m .copy;
       scopes = replicate scopeLimit (scopeOf unused);
     }))
-    (result 5 (pos 0) (cleared (j .log) charts))
+    (answered 5 (pos 0) (cleared (j .log) charts))
 
 -- of a log that passed and charts that passed
-abbrev pub recoveredBy : Fuse → List ℕ → List ℕ → Scanned → Result
+abbrev pub recoveredBy : Fuse → List ℕ → List ℕ → Scanned → Answered
 recoveredBy f log charts s =
     settledOpening (s .rows) (s .index .tables .begun) (backward f (s .rows) (s .index) log (redoCharts log (s .rows) charts)) charts
 
-abbrev pub checkedBy : Fuse → List ℕ → List ℕ → Scanned → Result
+abbrev pub checkedBy : Fuse → List ℕ → List ℕ → Scanned → Answered
 checkedBy f log charts s =
     let p : ℕ = badPageBy log (s .rows) charts in
-    let ok : Result = recoveredBy f log charts s in
-    cond (not (eqb (s .bad) 0)) (result 3 (pos (s .bad)) (cleared log charts)) (cond (ltb p pageLimit) (result 4 (pos p) (cleared log charts)) ok)
+    let ok : Answered = recoveredBy f log charts s in
+    cond (not (eqb (s .bad) 0)) (answered 3 (pos (s .bad)) (cleared log charts)) (cond (ltb p pageLimit) (answered 4 (pos p) (cleared log charts)) ok)
 
-unfoldable pub opensBy : Fuse → World → Result
-opensBy f w = cond (rightLengths w) (checkedBy f (w .log) (w .charts) (scanned (w .log) noIndex)) (result 1 (pos 0) w)
+unfoldable pub opensBy : Fuse → World → Answered
+opensBy f w = cond (rightLengths w) (checkedBy f (w .log) (w .charts) (scanned (w .log) noIndex)) (answered 1 (pos 0) w)

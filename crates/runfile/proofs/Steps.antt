@@ -20,7 +20,7 @@ use Rattle.book.proofs.Sound.{sound-opening, stored-allowed}
 use Rattle.book.proofs.Claims.{grows-open}
 use Rattle.book.proofs.Pages.{Bounded}
 use Rattle.state.specs.World.{World, rightLengths, worldOf, Represents}
-use Rattle.state.specs.Contracts.{Result, byBook, cellsOf, formats, CallPost, OpenPost, FormatPost}
+use Rattle.state.specs.Contracts.{Answered, byBook, cellsOf, formats, CallPost, OpenPost, FormatPost}
 use Rattle.state.proofs.Lengths.{represented-lengths}
 use Rattle.state.proofs.StoredCharts.{charts-kept}
 use Rattle.state.proofs.OpenedStores.{byOpening, opens-book, charts-accepted}
@@ -73,7 +73,7 @@ pub call-answers : (b : Book) (bs : List ℕ) (at : ℕ) (given leaves : World) 
     → CallPost (callAt bs at) given a leaves → Answers b (calls true (callAt bs at)) a leaves
 unfolding byBook
 call-answers b bs at given leaves a r post = record {
-  answer = ap (λ (x : Result). x .answer) (post .is (represented-lengths zeros b given r) zeros b r);
+  answer = ap (λ (x : Answered). x .answer) (post .is (represented-lengths zeros b given r) zeros b r);
   stands = kept zeros b (callAt bs at) given leaves a r (typed-call bs at) post;
 }
 
@@ -92,8 +92,8 @@ open-answers b f given leaves a r post =
     let is : record { answer = a; world = leaves } ≡ byOpening zeros (given .charts) (opening b true f) = post .is ∙
     opens-book zeros 1000000 small (b .stored) al (omega arith) f given (represented-lengths zeros b given r) (stored-log b given r) (r .charts) good in
     record {
-      answer = ap (λ (x : Result). x .answer) is;
-      stands = subst (Represents zeros (opening b true f .book)) (sym (ap (λ (x : Result). x .world) is))
+      answer = ap (λ (x : Answered). x .answer) is;
+      stands = subst (Represents zeros (opening b true f .book)) (sym (ap (λ (x : Answered). x .world) is))
           (represents-world zeros (opening b true f .book) (given .charts) (r .range) (sound-opening b true f (r .sound))
           (charts-kept zeros (b .stored) (opening b true f .book .stored) (given .charts) (grows-open b true f) (r .charts)));
     }
@@ -118,7 +118,7 @@ right-lengths s log charts copy scopes l c d e = rw (l, c, d, e)
 
 pub format-stands : (given leaves : World) (a : Answer) → rightLengths given ≡ true → FormatPost zeroCells given a leaves → Represents zeros formatted leaves
 format-stands given leaves a e post =
-    let done : a .number ≡ 0 = ap (λ (r : Result). r .answer .number) (post .is) ∙ format-done given e in
+    let done : a .number ≡ 0 = ap (λ (r : Answered). r .answer .number) (post .is) ∙ format-done given e in
     let f = formatted-store zeroCells given leaves a post done in
     let h = held-formatted zeroCells leaves f in
     subst (λ (cells : ℕ → ℤ). Represents cells formatted leaves) (λ i c. cells-zero cellLimit c i) (represents (cellsOf zeroCells) formatted leaves (f .small) h)

@@ -14,7 +14,7 @@ use Rattle.book.specs.Events.{Event, happens}
 use Rattle.book.proofs.Sound.{TypedEvent, TypedEvents}
 use Rattle.book.proofs.Pages.{Bounded}
 use Rattle.state.specs.World.{World}
-use Rattle.state.specs.Contracts.{Result, opens, byBook, cellsOf, FormatPost}
+use Rattle.state.specs.Contracts.{Answered, opens, byBook, cellsOf, FormatPost}
 use Rattle.state.proofs.Lengths.{represented-lengths}
 use Rattle.state.proofs.OpenedStores.{opens-refused}
 use Rattle.state.proofs.FormattedStores.{formatted-store}
@@ -32,11 +32,11 @@ short w = record { state = w .state; log = []; charts = w .charts; copy = w .cop
 -- the step of an event, by the book
 abbrev stepOf : (ℕ → ℤ) → Book → World → Event → Step
 stepOf cells b own (Event.opens true f) =
-    let r : Result = opens f own in
+    let r : Answered = opens f own in
     opened (record { fuse = f; asLeft = true; given = own; answer = r .answer; leaves = r .world })
 stepOf cells b own (Event.opens false f) = opened (record { fuse = f; asLeft = true; given = short own; answer = answer 1 (pos 0); leaves = short own })
 stepOf cells b own (Event.calls true k) =
-    let r : Result = byBook cells b k own in
+    let r : Answered = byBook cells b k own in
     called (record { call = k; given = own; answer = r .answer; leaves = r .world })
 stepOf cells b own (Event.calls false k) = called (record { call = k; given = short own; answer = answer 1 (pos 0); leaves = short own })
 

@@ -18,7 +18,7 @@ use Rattle.book.proofs.Sound.{sound-call, sound-opening, stored-allowed}
 use Rattle.book.proofs.Claims.{grows-open}
 use Rattle.book.proofs.Pages.{Bounded, abs-within}
 use Rattle.state.specs.World.{World, rightLengths, worldOf, Charts, Represents}
-use Rattle.state.specs.Contracts.{Result, OpenPost, CallPost, byBook}
+use Rattle.state.specs.Contracts.{Answered, OpenPost, CallPost, byBook}
 use Rattle.state.proofs.StoredCharts.{charts-kept, charts-call}
 use Rattle.state.proofs.OpenedStores.{byOpening, opens-book, opens-refused, charts-accepted}
 use Rattle.sessions.specs.Host.{Opening, Called, Step, opened, called, answerOf, eventOf, worldAfter, callsFollow, HostDoes, Contract}
@@ -54,8 +54,8 @@ left : (cells : ℕ → ℤ) (o : Outcome) (answer : Answer) (own leaves : World
     → record { answer = answer; world = leaves } ≡ byOpening cells charts o → Sound (o .book) → Charts cells (o .book .stored) charts
     → ByBook cells o answer own follow
 left cells o answer own leaves charts follow e is s C = record {
-  answers = ap (λ (r : Result). r .answer) is;
-  held = subst (λ (w : World). Held cells (o .book) w follow) (sym (e ∙ ap (λ (r : Result). r .world) is)) (held-world cells (o .book) charts follow s C);
+  answers = ap (λ (r : Answered). r .answer) is;
+  held = subst (λ (w : World). Held cells (o .book) w follow) (sym (e ∙ ap (λ (r : Answered). r .world) is)) (held-world cells (o .book) charts follow s C);
 }
 
 module _ (cells : ℕ → ℤ) (small : Bounded 1000000 cells) (b : Book) (own : World) (follow : Bool) (h : Held cells b own follow) where
@@ -73,9 +73,9 @@ module _ (cells : ℕ → ℤ) (small : Bounded 1000000 cells) (b : Book) (own :
       (charts-call cells b (c .call) (c .given .charts) (h .sound) (stands .charts))
   step-call c may post false e =
       let is = post .lengths e in
-      let as-before = after-same own (called c) (may .2) (may .3) (ap (λ (r : Result). r .world) is) in
+      let as-before = after-same own (called c) (may .2) (may .3) (ap (λ (r : Answered). r .world) is) in
       subst (λ (o : Outcome). ByBook cells o (c .answer) (worldAfter own (called c)) follow) (sym (call-refused (c .call)))
-      (record { answers = ap (λ (r : Result). r .answer) is; held = subst (λ (w : World). Held cells b w follow) (sym as-before) h })
+      (record { answers = ap (λ (r : Answered). r .answer) is; held = subst (λ (w : World). Held cells b w follow) (sym as-before) h })
     where
       call-refused : (k : Call) → call cells b false k ≡ refused 1 b
       call-refused k = unfold call in refl
@@ -98,12 +98,12 @@ module _ (cells : ℕ → ℤ) (small : Bounded 1000000 cells) (b : Book) (own :
       (charts-kept cells (b .stored) (opening b true (o .fuse) .book .stored) (o .given .charts) (grows-open b true (o .fuse)) C)
   step-open o may post false e =
       let is = post .is ∙ opens-refused (o .fuse) (o .given) e in
-      let nothing = ap (λ (r : Result). r .world) is in
-      let number = ap (λ (r : Result). r .answer .number) is in
+      let nothing = ap (λ (r : Answered). r .world) is in
+      let number = ap (λ (r : Answered). r .answer .number) is in
       let log = back-own logLength _ _ _ (may .0 .log) (ap (λ (w : World). w .log) nothing) in
       let charts = back-own chartsLength _ _ _ (may .0 .charts) (ap (λ (w : World). w .charts) nothing) in
       record {
-        answers = ap (λ (r : Result). r .answer) is;
+        answers = ap (λ (r : Answered). r .answer) is;
         held = record {
           sound = h .sound;
           log = log ∙ h .log;

@@ -23,7 +23,7 @@ use Rattle.book.proofs.Adds.{passes}
 use Rattle.book.proofs.Sound.{Decided, refuses, accepts, decided}
 use Rattle.book.proofs.Pages.{Bounded, within-abs, SamePage, page-same, chart-same, cell-read}
 use Rattle.state.specs.World.{World, stateOf, copyOf, tableOf, worldOf, Represents}
-use Rattle.state.specs.Contracts.{result, withPage, chartsAfter, byBook}
+use Rattle.state.specs.Contracts.{answered, withPage, chartsAfter, byBook}
 use Rattle.state.proofs.StoredCharts.{flush-page}
 use Rattle.state.proofs.SameBook.{books-same}
 
@@ -158,12 +158,12 @@ unfolding call
 refused-five cells b k o = ap (λ (t : Bool). decide cells b k (cond (not t) 5 (refusal b k))) o
 
 -- it refuses every call by 5
-pub closed-call : (cells : ℕ → ℤ) (b : Book) (k : Call) (w : World) → b .isOpen ≡ false → Represents cells b w → byBook cells b k w ≡ result 5 (pos 0) w
+pub closed-call : (cells : ℕ → ℤ) (b : Book) (k : Call) (w : World) → b .isOpen ≡ false → Represents cells b w → byBook cells b k w ≡ answered 5 (pos 0) w
 unfolding byBook
 closed-call cells b k w o h =
     ap (λ (x : Outcome). record { answer = x .answer; world = worldOf cells (x .book) (chartsAfter cells b (ending k) (x .answer .number) (w .charts)) })
     (refused-five cells b k o) ∙
-    ap (result 5 (pos 0)) (ap (worldOf cells b) (charts-refused cells b k 4 (w .charts)) ∙ sym (h .is))
+    ap (answered 5 (pos 0)) (ap (worldOf cells b) (charts-refused cells b k 4 (w .charts)) ∙ sym (h .is))
 
 -- ── Any two books ─────────────────────────────────────────────────────────────────────────────────────────────────────
 

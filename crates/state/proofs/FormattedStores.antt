@@ -18,7 +18,7 @@ use Rattle.book.proofs.Lists.{and-r}
 use Rattle.book.proofs.Blocks.{first-all, first-within}
 use Rattle.book.proofs.Pages.{Bounded, within-abs}
 use Rattle.state.specs.World.{World, rightLengths, stateOf, tableOf, copyOf, cleared, worldOf, Charts}
-use Rattle.state.specs.Contracts.{Result, result, badCell, cellsOf, formats, FormatPost}
+use Rattle.state.specs.Contracts.{Answered, answered, badCell, cellsOf, formats, FormatPost}
 
 -- the charts of a new store
 abbrev pub newCharts : (ℕ → ℤ) → List ℕ
@@ -45,9 +45,9 @@ small-cells values long good c = go (ltb c cellLimit) refl
     go false e = let k = ltb-false c cellLimit e in rw (List·getD-eq-default values (pos 0) {n = c} (omega arith)) (omega arith)
 
 -- the result by the two tests: the lengths are right, and some cell is out of range
-abbrev byTests : List ℤ → World → Bool → Bool → Result
+abbrev byTests : List ℤ → World → Bool → Bool → Answered
 byTests values given s t =
-    cond (not s) (result 1 (pos 0) given) (cond t (result 2 (pos (badCell values)) given) (result 0 (pos 0) (cleared (logBytes []) (newCharts (cellsOf values)))))
+    cond (not s) (answered 1 (pos 0) given) (cond t (answered 2 (pos (badCell values)) given) (answered 0 (pos 0) (cleared (logBytes []) (newCharts (cellsOf values)))))
 
 formats-done : (values : List ℤ) (given : World) → formats values given .answer .number ≡ 0 → Formatted values (formats values given .world)
 unfolding formats worldOf stateOf tableOf copyOf
@@ -62,8 +62,7 @@ formats-done values given = go (rightLengths given && eqb (length values) cellLi
       is = refl;
     }
 
-pub formatted-store : (values : List ℤ) (given leaves : World) (answer : Answer) → FormatPost values given answer leaves → answer .number ≡ 0
-    → Formatted values leaves
-formatted-store values given leaves answer post done =
-    subst (Formatted values) (sym (ap (λ (r : Result). r .world) (post .is)))
-    (formats-done values given (ap (λ (r : Result). r .answer .number) (sym (post .is)) ∙ done))
+pub formatted-store : (values : List ℤ) (given : World) (x : Answered) → FormatPost values given x → x .answer .number ≡ 0 → Formatted values (x .world)
+formatted-store values given x post done =
+    subst (Formatted values) (sym (ap (λ (r : Answered). r .world) (post .is)))
+    (formats-done values given (ap (λ (r : Answered). r .answer .number) (sym (post .is)) ∙ done))

@@ -12,7 +12,7 @@ use Rattle.book.specs.Numbers.{within}
 use Rattle.book.specs.Logs.{Sound}
 use Rattle.book.proofs.Sound.{sound-call}
 use Rattle.state.specs.World.{World, worldOf, Charts, Represents}
-use Rattle.state.specs.Contracts.{Result, CallPost, chartsAfter, byBook}
+use Rattle.state.specs.Contracts.{Answered, CallPost, chartsAfter, byBook}
 use Rattle.state.proofs.Lengths.{represented-lengths}
 use Rattle.state.proofs.StoredCharts.{charts-call}
 
@@ -22,11 +22,11 @@ pub represents-world : (cells : ℕ → ℤ) (b : Book) (charts : List ℕ) → 
 unfolding worldOf
 represents-world cells b charts r s C = record { range = r; sound = s; charts = C; is = refl }
 
-pub kept : (cells : ℕ → ℤ) (b : Book) (k : Call) (given leaves : World) (answer : Answer) → Represents cells b given → Typed k → CallPost k given answer leaves
-    → Represents cells (call cells b true k .book) leaves
+pub kept : (cells : ℕ → ℤ) (b : Book) (k : Call) (given : World) (x : Answered) → Represents cells b given → Typed k → CallPost k given x
+    → Represents cells (call cells b true k .book) (x .world)
 unfolding byBook
-kept cells b k given leaves answer r t post =
+kept cells b k given x r t post =
     let is = post .is (represented-lengths cells b given r) cells b r in
-    subst (Represents cells (call cells b true k .book)) (sym (ap (λ (x : Result). x .world) is))
+    subst (Represents cells (call cells b true k .book)) (sym (ap (λ (x : Answered). x .world) is))
     (represents-world cells (call cells b true k .book) (chartsAfter cells b (ending k) (call cells b true k .answer .number) (given .charts)) (r .range)
     (sound-call cells b true k (r .sound) t) (charts-call cells b k (given .charts) (r .sound) (r .charts)))

@@ -16,10 +16,10 @@ use Rattle.book.proofs.InvariantKept.{few-rows}
 use Rattle.book.proofs.Pages.{Bounded, charts-good}
 use Rattle.book.proofs.OpenBytes.{open-bytes}
 use Rattle.state.specs.World.{World, rightLengths, copyOf, worldOf, Charts}
-use Rattle.state.specs.Contracts.{Result, openedWorld, opens}
+use Rattle.state.specs.Contracts.{Answered, openedWorld, opens}
 
 -- what the book makes of an opening, in the values that stand for it
-abbrev pub byOpening : (ℕ → ℤ) → List ℕ → Outcome → Result
+abbrev pub byOpening : (ℕ → ℤ) → List ℕ → Outcome → Answered
 byOpening cells charts o = record { answer = o .answer; world = worldOf cells (o .book) charts }
 
 -- it goes by the stored bytes

@@ -29,7 +29,7 @@ use Rattle.book.proofs.Pages.{Bounded, abs-within, chart-same, asOf}
 use Rattle.book.proofs.Flush.{mark-le}
 use Rattle.book.proofs.AnyCharts.{AreBytes, marksOf, baseOf, marked-any, base-bounded, charts-any}
 use Rattle.state.specs.World.{World, rightLengths, worldOf, Charts, Represents}
-use Rattle.state.specs.Contracts.{Result, OpenPost, opens}
+use Rattle.state.specs.Contracts.{Answered, OpenPost, opens}
 use Rattle.book.proofs.Blocks.{first-within}
 use Rattle.state.proofs.StoredCharts.{charts-kept}
 use Rattle.state.proofs.OpenedStores.{opens-bytes, opens-book, opens-refused}
@@ -104,9 +104,9 @@ reopen-charts cells f rs charts C =
     (charts-kept cells rs (reopened f rs .stored) charts (extends-open f rs .starts) C)
 
 -- an opening of a store that was accepted, from the cells on that its charts say
-accepted-stands : (f : Fuse) (given leaves : World) (answer : Answer) → AreBytes (given .charts) → OpenPost f given answer leaves → rightLengths given ≡ true
-    → length (given .charts) ≡ chartsLength → Accepted (given .log) (given .charts) → Stands leaves
-accepted-stands f given leaves answer byte post e long a = record {
+accepted-stands : (f : Fuse) (given : World) (x : Answered) → AreBytes (given .charts) → OpenPost f given x → rightLengths given ≡ true
+    → length (given .charts) ≡ chartsLength → Accepted (given .log) (given .charts) → Stands (x .world)
+accepted-stands f given x byte post e long a = record {
   cells = baseOf (given .charts) (a .rows);
   book = reopen f (a .rows) .book;
   represents = subst (Represents (baseOf (given .charts) (a .rows)) (reopen f (a .rows) .book)) (sym world)
@@ -121,23 +121,22 @@ accepted-stands f given leaves answer byte post e long a = record {
     C : Charts (baseOf (given .charts) (a .rows)) (a .rows) (given .charts)
     C = found-charts (given .charts) long byte (a .rows) (a .allowed) (a .good)
 
-    world : leaves ≡ worldOf (baseOf (given .charts) (a .rows)) (reopen f (a .rows) .book) (given .charts)
-    world = ap (λ (r : Result). r .world)
+    world : x .world ≡ worldOf (baseOf (given .charts) (a .rows)) (reopen f (a .rows) .book) (given .charts)
+    world = ap (λ (r : Answered). r .world)
         (post .is ∙ opens-book (baseOf (given .charts) (a .rows)) 334217728 small (a .rows) (a .allowed) (omega arith) f given e (a .is) C (a .good))
 
 -- any log, charts, state, copy and scopes
-pub ready-stands : (f : Fuse) (given leaves : World) (answer : Answer) → AreBytes (given .charts) → OpenPost f given answer leaves
-    → answer .number ≡ 0 → Stands leaves
-ready-stands f given leaves answer byte post done = go (rightLengths given) refl
+pub ready-stands : (f : Fuse) (given : World) (x : Answered) → AreBytes (given .charts) → OpenPost f given x → x .answer .number ≡ 0 → Stands (x .world)
+ready-stands f given x byte post done = go (rightLengths given) refl
   where
     number : opens f given .answer .number ≡ 0
-    number = ap (λ (r : Result). r .answer .number) (sym (post .is)) ∙ done
+    number = ap (λ (r : Answered). r .answer .number) (sym (post .is)) ∙ done
 
-    go : (t : Bool) → rightLengths given ≡ t → Stands leaves
-    go false e = let one = ap (λ (r : Result). r .answer .number) (opens-refused f given e) in let none = number in absurd (omega arith)
+    go : (t : Bool) → rightLengths given ≡ t → Stands (x .world)
+    go false e = let one = ap (λ (r : Answered). r .answer .number) (opens-refused f given e) in let none = number in absurd (omega arith)
     go true e =
         let log : eqb (length (given .log)) logLength ≡ true = search (and-l, and-r) in
         let charts : eqb (length (given .charts)) chartsLength ≡ true = search (and-l, and-r) in
-        let read = sym (ap (λ (r : Result). r .answer .number) (opens-bytes f given e)) ∙ number in
-        accepted-stands f given leaves answer byte post e (eqb-true _ chartsLength charts)
+        let read = sym (ap (λ (r : Answered). r .answer .number) (opens-bytes f given e)) ∙ number in
+        accepted-stands f given x byte post e (eqb-true _ chartsLength charts)
         (accepted f (given .log) (given .charts) (eqb-true _ logLength log) read)

@@ -20,7 +20,7 @@ use Rattle.book.specs.LogBytes.{logBytes}
 use Rattle.book.proofs.Lists.{clash}
 use Rattle.book.proofs.Sound.{Decided, refuses, accepts, decided}
 use Rattle.state.specs.World.{World, rightLengths, isOpenPhase, stateOf, tableOf, copyOf, worldOf, cleared, Represents}
-use Rattle.state.specs.Contracts.{Result, result, chartsAfter, byBook, numbers, CallPost}
+use Rattle.state.specs.Contracts.{Answered, answered, chartsAfter, byBook, numbers, CallPost}
 use Rattle.state.proofs.Lengths.{represented-lengths}
 use Rattle.state.proofs.SameBook.{phase-open}
 use Rattle.state.proofs.Agree.{charts-refused, closed-call, agree}
@@ -81,13 +81,13 @@ call-among cells b k = go (cond (not (b .isOpen)) 5 (refusal b k)) (check (not (
 
 -- ── What a call comes to ──────────────────────────────────────────────────────────────────────────────────────────────
 
-data Comes (w : World) (r : Result) : Type 0 where
-  refusedBy : (n : ℕ) → r ≡ result (suc n) (pos 0) w → Comes w r
+data Comes (w : World) (r : Answered) : Type 0 where
+  refusedBy : (n : ℕ) → r ≡ answered (suc n) (pos 0) w → Comes w r
   done : r .answer .number ≡ 0 → Comes w r
-  powerFailed : r ≡ result 5 (pos 0) (cleared (r .world .log) (w .charts)) → Comes w r
+  powerFailed : r ≡ answered 5 (pos 0) (cleared (r .world .log) (w .charts)) → Comes w r
 
 -- in the values, what the book makes of a call on them
-abbrev made : (ℕ → ℤ) → Book → Call → World → Outcome → Result
+abbrev made : (ℕ → ℤ) → Book → Call → World → Outcome → Answered
 made cells b k w o = record { answer = o .answer; world = worldOf cells (o .book) (chartsAfter cells b (ending k) (o .answer .number) (w .charts)) }
 
 comes : (cells : ℕ → ℤ) (b : Book) (k : Call) (w : World) → Represents cells b w → Comes w (made cells b k w (call cells b true k))
@@ -96,29 +96,28 @@ comes cells b k w r = go (call cells b true k) (decided cells b true k)
   where
     ends : (v : ℤ) (s u : List Row) (f : Fuse) (t : Bool) → Comes w (made cells b k w (ended v (record { stored = s; waiting = u; fuse = f; isOpen = t })))
     ends v s u f true = done refl
-    ends v s u f false = powerFailed (ap (λ (c : List ℕ). result 5 (pos 0) (cleared (logBytes s) c)) (charts-refused cells b k 4 (w .charts)))
+    ends v s u f false = powerFailed (ap (λ (c : List ℕ). answered 5 (pos 0) (cleared (logBytes s) c)) (charts-refused cells b k 4 (w .charts)))
 
     go : (o : Outcome) → Decided cells b true k o → Comes w (made cells b k w o)
     go o (refuses n e) =
-        refusedBy n (ap (made cells b k w) e ∙ ap (result (suc n) (pos 0)) (ap (worldOf cells b) (charts-refused cells b k n (w .charts)) ∙ sym (r .is)))
+        refusedBy n (ap (made cells b k w) e ∙ ap (answered (suc n) (pos 0)) (ap (worldOf cells b) (charts-refused cells b k n (w .charts)) ∙ sym (r .is)))
     go o (accepts l op q e) = subst (λ (x : Outcome). Comes w (made cells b k w x)) (sym e)
         (let x = through b k in ends (value cells b k) (x .stored) (x .waiting) (x .fuse) (x .isOpen))
 
-keeps : (w : World) (r : Result) → Comes w r → r .answer .number ≢ 0 → r .answer .number ≢ 5 → r ≡ result (r .answer .number) (pos 0) w
-keeps w r (refusedBy n e) z f = e ∙ ap (λ (m : ℕ). result m (pos 0) w) (sym (ap (λ (x : Result). x .answer .number) e))
+keeps : (w : World) (r : Answered) → Comes w r → r .answer .number ≢ 0 → r .answer .number ≢ 5 → r ≡ answered (r .answer .number) (pos 0) w
+keeps w r (refusedBy n e) z f = e ∙ ap (λ (m : ℕ). answered m (pos 0) w) (sym (ap (λ (x : Answered). x .answer .number) e))
 keeps w r (done e) z f = absurd (z e)
-keeps w r (powerFailed e) z f = absurd (f (ap (λ (x : Result). x .answer .number) e))
+keeps w r (powerFailed e) z f = absurd (f (ap (λ (x : Answered). x .answer .number) e))
 
-cut : (w : World) (r : Result) → Comes w r → r .answer .number ≡ 5
-    → (r ≡ result 5 (pos 0) w) ⊎ (r ≡ result 5 (pos 0) (cleared (r .world .log) (w .charts)))
-cut w r (refusedBy n e) h = inl (e ∙ ap (λ (m : ℕ). result m (pos 0) w) (sym (ap (λ (x : Result). x .answer .number) e) ∙ h))
+cut : (w : World) (r : Answered) → Comes w r → r .answer .number ≡ 5
+    → (r ≡ answered 5 (pos 0) w) ⊎ (r ≡ answered 5 (pos 0) (cleared (r .world .log) (w .charts)))
+cut w r (refusedBy n e) h = inl (e ∙ ap (λ (m : ℕ). answered m (pos 0) w) (sym (ap (λ (x : Answered). x .answer .number) e) ∙ h))
 cut w r (done e) h = absurd (omega arith)
 cut w r (powerFailed e) h = inr e
 
 -- ── The contract is met ───────────────────────────────────────────────────────────────────────────────────────────────
 
-pub met : (cells : ℕ → ℤ) (b : Book) (k : Call) (given : World) → Represents cells b given
-    → CallPost k given (byBook cells b k given .answer) (byBook cells b k given .world)
+pub met : (cells : ℕ → ℤ) (b : Book) (k : Call) (given : World) → Represents cells b given → CallPost k given (byBook cells b k given)
 unfolding byBook worldOf
 met cells b k given r = record {
   table = is-member (call-among cells b k);
@@ -130,7 +129,7 @@ met cells b k given r = record {
 }
 
 -- lent a buffer of another length
-pub met-lengths : (k : Call) (given : World) → rightLengths given ≡ false → CallPost k given (answer 1 (pos 0)) given
+pub met-lengths : (k : Call) (given : World) → rightLengths given ≡ false → CallPost k given (answered 1 (pos 0) given)
 met-lengths k given wrong = record {
   table = is-member (zero-among k .1);
   lengths = λ e. refl;

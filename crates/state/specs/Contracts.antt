@@ -16,15 +16,22 @@ use Rattle.book.specs.Numbers.{within}
 use Rattle.book.specs.LogBytes.{logBytes}
 use Rattle.book.specs.Pages.{pageBytes, chartBytes, pageAfter}
 use Rattle.book.specs.Opening.{Opened, openBytes}
-use Rattle.state.specs.World.{World, rightLengths, isOpenPhase, stateOf, tableOf, cleared, worldOf, Represents}
+use Rattle.tables_model.specs.declared.Scope.{Scope}
+use Rattle.state.specs.declared.answers.Result.{Result}
+use Rattle.state.specs.Answers.{numberAndValue}
+use Rattle.state.specs.World.{World, world, rightLengths, isOpenPhase, stateOf, tableOf, cleared, worldOf, Represents}
 
 -- what a call gives back and leaves
-pub record Result : Type 0 where
+pub record Answered : Type 0 where
   pub answer : Answer
   pub world : World
 
-abbrev pub result : ℕ → ℤ → World → Result
-result n v w = record { answer = answer n v; world = w }
+-- the same of a function: its result, and what the lent buffers are after it
+abbrev pub returned : Result → List ℕ → List ℕ → List ℕ → List Scope → Answered
+returned r log charts copy scopes = record { answer = numberAndValue (r .answer); world = world (r .state) log charts copy scopes }
+
+abbrev pub answered : ℕ → ℤ → World → Answered
+answered n v w = record { answer = answer n v; world = w }
 
 -- ── Format and open: for whatever they are handed ─────────────────────────────────────────────────────────────────────
 
@@ -37,29 +44,29 @@ abbrev pub cellsOf : List ℤ → ℕ → ℤ
 cellsOf values c = getD values c (pos 0)
 
 -- 01: format. The 224 values are lent too, so their number counts for refusal 1.
-unfoldable pub formats : List ℤ → World → Result
+unfoldable pub formats : List ℤ → World → Answered
 formats values w =
     let at : ℕ = badCell values in
-    cond (not (rightLengths w && eqb (length values) cellLimit)) (result 1 (pos 0) w)
-    (cond (ltb at cellLimit) (result 2 (pos at) w)
-    (result 0 (pos 0) (cleared (logBytes []) (chartBytes (pageAfter (cellsOf values) [])))))
+    cond (not (rightLengths w && eqb (length values) cellLimit)) (answered 1 (pos 0) w)
+    (cond (ltb at cellLimit) (answered 2 (pos at) w)
+    (answered 0 (pos 0) (cleared (logBytes []) (chartBytes (pageAfter (cellsOf values) [])))))
 
 -- what an opening of the stored bytes comes to in the store; it writes no page
-abbrev pub openedWorld : List ℕ → Opened → Result
+abbrev pub openedWorld : List ℕ → Opened → Answered
 openedWorld charts o = record {
   answer = o .answer;
   world = record { state = stateOf (o .book); log = o .log; charts = charts; copy = o .copy; scopes = tableOf (o .book) };
 }
 
 -- 01: open. Nothing is taken from state, copy or scopes but their lengths.
-unfoldable pub opens : Fuse → World → Result
-opens f w = cond (rightLengths w) (openedWorld (w .charts) (openBytes f (w .log) (w .charts))) (result 1 (pos 0) w)
+unfoldable pub opens : Fuse → World → Answered
+opens f w = cond (rightLengths w) (openedWorld (w .charts) (openBytes f (w .log) (w .charts))) (answered 1 (pos 0) w)
 
-pub record FormatPost (values : List ℤ) (given : World) (answer : Answer) (leaves : World) : Type 0 where
-  pub is : record { answer = answer; world = leaves } ≡ formats values given
+pub record FormatPost (values : List ℤ) (given : World) (x : Answered) : Type 0 where
+  pub is : x ≡ formats values given
 
-pub record OpenPost (f : Fuse) (given : World) (answer : Answer) (leaves : World) : Type 0 where
-  pub is : record { answer = answer; world = leaves } ≡ opens f given
+pub record OpenPost (f : Fuse) (given : World) (x : Answered) : Type 0 where
+  pub is : x ≡ opens f given
 
 -- ── The other calls: for what stands for a book ───────────────────────────────────────────────────────────────────────
 
@@ -74,7 +81,7 @@ chartsAfter cells b forces n charts = charts
 chartsAfter cells b (flushes p) n charts = cond (eqb n 0) (withPage p (pageBytes (pageAfter cells (rowsOf b) p)) charts) charts
 
 -- what the book makes of the call, and of the values that stand for it
-unfoldable pub byBook : (ℕ → ℤ) → Book → Call → World → Result
+unfoldable pub byBook : (ℕ → ℤ) → Book → Call → World → Answered
 byBook cells b k w =
     let o : Outcome = call cells b true k in
     record { answer = o .answer; world = worldOf cells (o .book) (chartsAfter cells b (ending k) (o .answer .number) (w .charts)) }
@@ -90,17 +97,15 @@ numbers Call.force = 0 ∷ 1 ∷ 5 ∷ []
 numbers (Call.flush p) = 0 ∷ 1 ∷ 5 ∷ 14 ∷ []
 numbers (Call.read c) = 0 ∷ 1 ∷ 5 ∷ 10 ∷ []
 
-pub record CallPost (k : Call) (given : World) (answer : Answer) (leaves : World) : Type 0 where
-  pub table : member (answer .number) (numbers k) ≡ true
+pub record CallPost (k : Call) (given : World) (x : Answered) : Type 0 where
+  pub table : member (x .answer .number) (numbers k) ≡ true
   -- a lent buffer has another length: refused by 1, and nothing changes
-  pub lengths : rightLengths given ≡ false → record { answer = answer; world = leaves } ≡ result 1 (pos 0) given
+  pub lengths : rightLengths given ≡ false → x ≡ answered 1 (pos 0) given
   -- the store is closed: refused by 5, and nothing changes
-  pub shut : rightLengths given ≡ true → isOpenPhase (given .state .phase) ≡ false → record { answer = answer; world = leaves } ≡ result 5 (pos 0) given
+  pub shut : rightLengths given ≡ true → isOpenPhase (given .state .phase) ≡ false → x ≡ answered 5 (pos 0) given
   -- 00, demand 1: a refusal changes no byte, whatever the call was handed
-  pub keeps : answer .number ≢ 0 → answer .number ≢ 5 → record { answer = answer; world = leaves } ≡ result (answer .number) (pos 0) given
+  pub keeps : x .answer .number ≢ 0 → x .answer .number ≢ 5 → x ≡ answered (x .answer .number) (pos 0) given
   -- 01, "Power": the store was closed and is as it was, or the power failed, which leaves the charts, and copy, tail and scopes cleared
-  pub cut : answer .number ≡ 5 →
-      (record { answer = answer; world = leaves } ≡ result 5 (pos 0) given) ⊎
-      (record { answer = answer; world = leaves } ≡ result 5 (pos 0) (cleared (leaves .log) (given .charts)))
+  pub cut : x .answer .number ≡ 5 → (x ≡ answered 5 (pos 0) given) ⊎ (x ≡ answered 5 (pos 0) (cleared (x .world .log) (given .charts)))
   -- what stands for a book becomes what stands for the book after the call
-  pub is : rightLengths given ≡ true → (cells : ℕ → ℤ) (b : Book) → Represents cells b given → record { answer = answer; world = leaves } ≡ byBook cells b k given
+  pub is : rightLengths given ≡ true → (cells : ℕ → ℤ) (b : Book) → Represents cells b given → x ≡ byBook cells b k given

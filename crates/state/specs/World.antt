@@ -18,6 +18,7 @@ use Rattle.book.specs.LogBytes.{rowsBytes, logBytes}
 use Rattle.book.specs.Pages.{chartBytes, pageAfter}
 use Rattle.book.specs.Opening.{noCopy}
 use Rattle.book.specs.Logs.{Sound}
+use Rattle.tables_model.specs.declared.Scope.{Scope}
 use Rattle.tables_model.specs.declared.Tables.{Tables}
 use Rattle.tables_model.specs.Visits.{vacant}
 use Rattle.tables_model.specs.Meaning.{tablesOf, scopeTable}
@@ -26,7 +27,6 @@ use Rattle.state.specs.declared.ram.Phase.the-variants.{Open, Closed}
 use Rattle.state.specs.declared.ram.Fuse.{Fuse}
 use Rattle.state.specs.declared.ram.Fuse.the-variants.{Unlimited, Left}
 use Rattle.state.specs.declared.ram.State.{State}
-use Rattle.state.specs.declared.ram.Scope.{Scope}
 
 -- all that a call is handed
 pub record World : Type 0 where
@@ -35,6 +35,9 @@ pub record World : Type 0 where
   pub charts : List ℕ
   pub copy : List ℕ
   pub scopes : List Scope
+
+abbrev pub world : State → List ℕ → List ℕ → List ℕ → List Scope → World
+world state log charts copy scopes = record { state = state; log = log; charts = charts; copy = copy; scopes = scopes }
 
 -- 01: the lent buffers have their lengths
 abbrev pub rightLengths : World → Bool

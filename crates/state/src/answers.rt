@@ -1,123 +1,97 @@
-// What each call answers: its result, or the reason why it was refused. `specs/Answers` has document 01's number and value for each case.
+// What a call answers: its result, or the reason why it was refused. `specs/Answers` has document 01's number and value for each case.
+ghost use mathlib.Core.Path.{_≡_};
+ghost use lib.IntN.{pos};
+ghost use Rattle.state.specs.Answers.{numberAndValue};
 use crate::ram::State;
 use rows::Cell;
 use rows::Lsn;
 use rows::Visit;
 
-pub enum Formatted {
+pub enum Answer {
     Done,
+    Visit(Visit),
+    Row(Lsn),
+    Grams(i32),
+    Wrote(u16), // the rows that an opening wrote
     WrongLength,
-    OutOfRange(Cell),
-}
-
-pub struct FormatResult {
-    pub state: State,
-    pub answer: Formatted,
-}
-
-pub enum Opened {
-    Ready(u16), // the rows that it wrote
-    WrongLength,
+    CellOutOfRange(Cell),
     BadRow(Lsn),
     BadPage(u8),
-    PowerFailed,
-}
-
-pub struct OpenResult {
-    pub state: State,
-    pub answer: Opened,
-}
-
-// In the answers below `Closed` says that the store was closed, or that the power failed during the call and it is closed now.
-pub enum Begun {
-    Visit(Visit),
-    WrongLength,
-    Closed,
+    Closed, // the store was closed, or the power failed during the call and it is closed
     VisitsUsedUp,
     TooManyActive,
     NoRoom,
-}
-
-pub struct BeginResult {
-    pub state: State,
-    pub answer: Begun,
-}
-
-pub enum Changed {
-    Row(Lsn),
-    WrongLength,
-    Closed,
     NotActive,
     NoSuchCell,
     ScopesUsedUp,
-    NoRoom,
-}
-
-pub struct ChangeResult {
-    pub state: State,
-    pub answer: Changed,
-}
-
-pub enum HandedOver {
-    Row(Lsn),
-    WrongLength,
-    Closed,
-    NotActive,
     SameVisit,
-    NoSuchCell,
     HoldsNone,
-    NoRoom,
-}
-
-pub struct HandOverResult {
-    pub state: State,
-    pub answer: HandedOver,
-}
-
-// Commit and abort.
-pub enum Ended {
-    Row(Lsn),
-    WrongLength,
-    Closed,
-    NotActive,
-}
-
-pub struct EndResult {
-    pub state: State,
-    pub answer: Ended,
-}
-
-pub enum Forced {
-    Done,
-    WrongLength,
-    Closed,
-}
-
-pub struct ForceResult {
-    pub state: State,
-    pub answer: Forced,
-}
-
-pub enum Flushed {
-    Done,
-    WrongLength,
-    Closed,
     NoSuchPage,
 }
 
-pub struct FlushResult {
+// What a call gives back.
+pub struct Result {
     pub state: State,
-    pub answer: Flushed,
+    pub answer: Answer,
 }
 
-pub enum CellRead {
-    Grams(i32),
-    WrongLength,
-    Closed,
-    NoSuchCell,
+// Document 01's refusal number, 0 where the call was done.
+pub fn number_of(a: Answer) -> u8
+    ensures { λ r. ⌜ r ≡ numberAndValue a .number ⌝ }
+{
+    match a {
+        Answer::Done => 0,
+        Answer::Visit(_) => 0,
+        Answer::Row(_) => 0,
+        Answer::Grams(_) => 0,
+        Answer::Wrote(_) => 0,
+        Answer::WrongLength => 1,
+        Answer::CellOutOfRange(_) => 2,
+        Answer::BadRow(_) => 3,
+        Answer::BadPage(_) => 4,
+        Answer::Closed => 5,
+        Answer::VisitsUsedUp => 6,
+        Answer::TooManyActive => 7,
+        Answer::NoRoom => 8,
+        Answer::NotActive => 9,
+        Answer::NoSuchCell => 10,
+        Answer::ScopesUsedUp => 11,
+        Answer::SameVisit => 12,
+        Answer::HoldsNone => 13,
+        Answer::NoSuchPage => 14,
+    }
 }
 
-pub struct ReadResult {
-    pub state: State,
-    pub answer: CellRead,
+// A number of 16 bits as a value.
+fn as_value(n: u16) -> i32
+    ensures { λ r. ⌜ r ≡ pos n ⌝ }
+{
+    n as i32
+}
+
+// Document 01's value, 0 where it names none.
+pub fn value_of(a: Answer) -> i32
+    ensures { λ r. ⌜ r ≡ numberAndValue a .value ⌝ }
+{
+    match a {
+        Answer::Done => 0,
+        Answer::Visit(v) => as_value(v.0),
+        Answer::Row(n) => as_value(n.0),
+        Answer::Grams(z) => z,
+        Answer::Wrote(n) => as_value(n),
+        Answer::WrongLength => 0,
+        Answer::CellOutOfRange(c) => as_value(c.0 as u16),
+        Answer::BadRow(n) => as_value(n.0),
+        Answer::BadPage(p) => as_value(p as u16),
+        Answer::Closed => 0,
+        Answer::VisitsUsedUp => 0,
+        Answer::TooManyActive => 0,
+        Answer::NoRoom => 0,
+        Answer::NotActive => 0,
+        Answer::NoSuchCell => 0,
+        Answer::ScopesUsedUp => 0,
+        Answer::SameVisit => 0,
+        Answer::HoldsNone => 0,
+        Answer::NoSuchPage => 0,
+    }
 }

@@ -1,6 +1,8 @@
 // The tables of an open store, without the functions that keep them: the types, the definitions of what every row makes of them (`specs/`), and the
 // theorems that they say at every moment what the rows of log and tail say (`proofs/Simulation`, `proofs/Judge`). It stands apart from crate `tables`
 // so that a wrong definition is refused in seconds, with no code to be proved.
+use rows::Cell;
+use rows::Lsn;
 use rows::Visit;
 
 // An active visit. Later fields move with it: the array is compacted entry by entry.
@@ -26,6 +28,17 @@ pub struct Entry {
     pub last: u16,
     pub handed: bool,
     pub count: u16,
+}
+
+// An entry of the scope table: changes of one cell by one maker that share a holder.
+pub struct Scope {
+    pub maker: Visit,
+    pub holder: Visit,
+    pub cell: Cell,
+    pub first: Lsn,
+    pub last: Lsn, // the highest of its changes that is not undone, 0 for none
+    pub handed: bool, // it was handed over, so its maker's next change starts another
+    pub count: u16, // its changes that are not undone
 }
 
 // The visits that a take-back is about: abort is about one, an opening about all.

@@ -1,0 +1,196 @@
+-- `state::answers::value_of` meets its contract: each arm has the value of its case. Assumes nothing.
+use mathlib.Core.Path.{_∙_}
+use mir.Syntax.{w32}
+use mir.Facts.{toZ-ofZ}
+use borrow.Author.Needs.{needs}
+use Rattle.state.proofs.answers.value_of.Statement.{statement}
+use Rattle.state.proofs.answers.value_of.Tie as tie
+
+enum-told : tie.Need-enum-told
+enum-told c = search needs
+
+enum-known-a : tie.Need-enum-known-a
+enum-known-a c = search needs
+
+as-value-requires : tie.Need-as-value-requires
+as-value-requires c κs = search needs
+
+enum-known-a-2 : tie.Need-enum-known-a-2
+enum-known-a-2 c = search needs
+
+as-value-requires-2 : tie.Need-as-value-requires-2
+as-value-requires-2 c κs = search needs
+
+enum-known-a-3 : tie.Need-enum-known-a-3
+enum-known-a-3 c = search needs
+
+enum-known-a-4 : tie.Need-enum-known-a-4
+enum-known-a-4 c = search needs
+
+as-value-requires-3 : tie.Need-as-value-requires-3
+as-value-requires-3 c κs = search needs
+
+enum-told-2 : tie.Need-enum-told-2
+enum-told-2 c = search needs
+
+enum-known-a-5 : tie.Need-enum-known-a-5
+enum-known-a-5 c = search needs
+
+cast-as-value : tie.Need-cast-as-value
+cast-as-value c = search needs
+
+as-value-requires-4 : tie.Need-as-value-requires-4
+as-value-requires-4 c κs = search needs
+
+enum-known-a-6 : tie.Need-enum-known-a-6
+enum-known-a-6 c = search needs
+
+as-value-requires-5 : tie.Need-as-value-requires-5
+as-value-requires-5 c κs = search needs
+
+enum-known-a-7 : tie.Need-enum-known-a-7
+enum-known-a-7 c = search needs
+
+cast-as-value-2 : tie.Need-cast-as-value-2
+cast-as-value-2 c = search needs
+
+as-value-requires-6 : tie.Need-as-value-requires-6
+as-value-requires-6 c κs = search needs
+
+enum-told-3 : tie.Need-enum-told-3
+enum-told-3 c = search needs
+
+enum-told-4 : tie.Need-enum-told-4
+enum-told-4 c = search needs
+
+enum-told-5 : tie.Need-enum-told-5
+enum-told-5 c = search needs
+
+enum-told-6 : tie.Need-enum-told-6
+enum-told-6 c = search needs
+
+enum-told-7 : tie.Need-enum-told-7
+enum-told-7 c = search needs
+
+enum-told-8 : tie.Need-enum-told-8
+enum-told-8 c = search needs
+
+enum-told-9 : tie.Need-enum-told-9
+enum-told-9 c = search needs
+
+enum-told-10 : tie.Need-enum-told-10
+enum-told-10 c = search needs
+
+enum-told-11 : tie.Need-enum-told-11
+enum-told-11 c = search needs
+
+enum-told-12 : tie.Need-enum-told-12
+enum-told-12 c = search needs
+
+returns : tie.Need-returns
+returns c = rw (c .enum-told .given .1)
+
+returns-2 : tie.Need-returns-2
+returns-2 c = rw (c .before .before .a .given .1) (toZ-ofZ {w = w32} {z = c .as-value .result} (search needs) ∙ c .as-value .ensures)
+
+returns-3 : tie.Need-returns-3
+returns-3 c = rw (c .before .before .a2 .given .1) (toZ-ofZ {w = w32} {z = c .as-value2 .result} (search needs) ∙ c .as-value2 .ensures)
+
+returns-4 : tie.Need-returns-4
+returns-4 c = rw (c .before .a3 .given .1) (toZ-ofZ {w = w32} {z = c .before .a3 .given .0 .0} (search needs))
+
+returns-5 : tie.Need-returns-5
+returns-5 c = rw (c .before .before .a4 .given .1) (toZ-ofZ {w = w32} {z = c .as-value3 .result} (search needs) ∙ c .as-value3 .ensures)
+
+returns-6 : tie.Need-returns-6
+returns-6 c = rw (c .enum-told2 .given .1)
+
+returns-7 : tie.Need-returns-7
+returns-7 c = rw (c .before .before .before .a5 .given .1) (toZ-ofZ {w = w32} {z = c .as-value4 .result} (search needs) ∙ c .as-value4 .ensures)
+
+returns-8 : tie.Need-returns-8
+returns-8 c = rw (c .before .before .a6 .given .1) (toZ-ofZ {w = w32} {z = c .as-value5 .result} (search needs) ∙ c .as-value5 .ensures)
+
+returns-9 : tie.Need-returns-9
+returns-9 c = rw (c .before .before .a7 .given .1) (toZ-ofZ {w = w32} {z = c .as-value6 .result} (search needs) ∙ c .as-value6 .ensures)
+
+returns-10 : tie.Need-returns-10
+returns-10 c = rw (c .enum-told3 .given .1)
+
+returns-11 : tie.Need-returns-11
+returns-11 c = rw (c .enum-told4 .given .1)
+
+returns-12 : tie.Need-returns-12
+returns-12 c = rw (c .enum-told5 .given .1)
+
+returns-13 : tie.Need-returns-13
+returns-13 c = rw (c .enum-told6 .given .1)
+
+returns-14 : tie.Need-returns-14
+returns-14 c = rw (c .enum-told7 .given .1)
+
+returns-15 : tie.Need-returns-15
+returns-15 c = rw (c .enum-told8 .given .1)
+
+returns-16 : tie.Need-returns-16
+returns-16 c = rw (c .enum-told9 .given .1)
+
+returns-17 : tie.Need-returns-17
+returns-17 c = rw (c .enum-told10 .given .1)
+
+returns-18 : tie.Need-returns-18
+returns-18 c = rw (c .enum-told11 .given .1)
+
+returns-19 : tie.Need-returns-19
+returns-19 c = rw (c .enum-told12 .given .1)
+
+pub value-of-spec : {M : Type 1} → statement M
+value-of-spec =
+    tie.close
+    (tie.spec
+    enum-told
+    enum-known-a
+    as-value-requires
+    enum-known-a-2
+    as-value-requires-2
+    enum-known-a-3
+    enum-known-a-4
+    as-value-requires-3
+    enum-told-2
+    enum-known-a-5
+    cast-as-value
+    as-value-requires-4
+    enum-known-a-6
+    as-value-requires-5
+    enum-known-a-7
+    cast-as-value-2
+    as-value-requires-6
+    enum-told-3
+    enum-told-4
+    enum-told-5
+    enum-told-6
+    enum-told-7
+    enum-told-8
+    enum-told-9
+    enum-told-10
+    enum-told-11
+    enum-told-12
+    returns
+    returns-2
+    returns-3
+    returns-4
+    returns-5
+    returns-6
+    returns-7
+    returns-8
+    returns-9
+    returns-10
+    returns-11
+    returns-12
+    returns-13
+    returns-14
+    returns-15
+    returns-16
+    returns-17
+    returns-18
+    returns-19)
