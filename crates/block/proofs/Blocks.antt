@@ -5,7 +5,7 @@ use Prim.Native.Nat.{ℕ}
 use native.Mathlib.Omega.{arith}
 use lib.ListN.{length}
 use Rattle.state.specs.declared.ram.State.{State}
-use Rattle.state.specs.declared.ram.Scope.{Scope}
+use Rattle.tables_model.specs.declared.Scope.{Scope}
 use Rattle.calls_model.specs.Perform.{world}
 use Rattle.block.specs.Fields.{part, stateIn, allIn, tableIn}
 use Rattle.block.specs.Block.{stateOf, tableOf, copyOf, worldIn, Holds}

@@ -10,7 +10,7 @@ use Rattle.book.specs.Scopes.{Scope as Entry, unused}
 use Rattle.tables_model.specs.Entries.{entries}
 use Rattle.tables.proofs.Flat.{entries-zero}
 use Rattle.state.specs.World.{scopeOf}
-use Rattle.state.specs.declared.ram.Scope.{Scope}
+use Rattle.tables_model.specs.declared.Scope.{Scope}
 use Rattle.calls_model.specs.Perform.{entryIn}
 use Rattle.block.specs.Fields.{part, scopeIn, inUse, allIn, tableIn, SameUse}
 use Rattle.block.proofs.Things.{Upto}

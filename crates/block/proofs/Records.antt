@@ -9,7 +9,7 @@ use Rattle.book.specs.Numbers.{number}
 use Rattle.tables_model.specs.declared.Active.{Active}
 use Rattle.tables_model.specs.declared.Tables.{Tables}
 use Rattle.state.specs.declared.ram.State.{State}
-use Rattle.state.specs.declared.ram.Scope.{Scope}
+use Rattle.tables_model.specs.declared.Scope.{Scope}
 use Rattle.journal.specs.declared.Control.{Control}
 use Rattle.calls_model.specs.Perform.{stateAfter}
 use Rattle.block.specs.Fields.{isSet, part, scopeIn, visitIn, visitsIn, stateIn, phaseBy, fuseBy, Headed}

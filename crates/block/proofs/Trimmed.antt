@@ -13,7 +13,7 @@ use Rattle.book.specs.Scopes.{unused, scopesOf}
 use Rattle.book.specs.Power.{Book, ledgerOf}
 use Rattle.book.specs.Book.{Answer, Outcome, call}
 use Rattle.tables_model.specs.Meaning.{tablesOf, scopeTable}
-use Rattle.state.specs.declared.ram.Scope.{Scope}
+use Rattle.tables_model.specs.declared.Scope.{Scope}
 use Rattle.state.specs.World.{World, openState, closedState, scopeOf, cleared, worldOf, stateOf as bookState, tableOf as bookTable}
 use Rattle.state.specs.Contracts.{Answered, answered, chartsAfter, byBook, CallPost}
 use Rattle.block.specs.Fields.{part, inUse, allIn}

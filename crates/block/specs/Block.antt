@@ -6,7 +6,7 @@ use Rattle.tables_model.specs.declared.Tables.{Tables}
 use Rattle.tables_model.specs.Entries.{entries}
 use Rattle.state.specs.World.{World}
 use Rattle.state.specs.declared.ram.State.{State}
-use Rattle.state.specs.declared.ram.Scope.{Scope}
+use Rattle.tables_model.specs.declared.Scope.{Scope}
 use Rattle.journal.specs.declared.Control.{Control}
 use Rattle.calls_model.specs.Perform.{structOf, stateAfter}
 use Rattle.block.specs.Fields.{tableAt, copyAt, part, blanks, inUse, stateIn, tableIn}

@@ -11,7 +11,7 @@ use Rattle.tables_model.specs.Rows.{Index, stepBy}
 use Rattle.journal.specs.Journal.{Journal, forced, forcedUpTo, Paged, paged}
 use Rattle.undo.specs.Writing.{Ram, rowCount, written}
 use Rattle.undo.specs.TakeBack.{Taking, fallAll}
-use Rattle.calls_model.specs.Acts.{Core, flushCount, acted, valueBy, valueNow}
+use Rattle.calls_model.specs.Acts.{Core, flushCount, acted}
 
 -- the parts of what a call works on
 abbrev pub indexIn : Core → Index
@@ -63,15 +63,3 @@ module _ (x : Core) where
       ≡ acted x (Call.flush p)
   unfolding acted
   flushes p m j g a b e = rw (e, b, a)
-
--- the value, by what is at hand after the call
-pub value-now : (x y : Core) (k : Call) → y ≡ acted x k → valueNow (x .tables .begun) (y .ram .journal .control) (y .ram .copy) k ≡ valueBy x y k
-unfolding valueNow valueBy acted
-value-now x y Call.begin e = refl
-value-now x y (Call.change v c a) e = refl
-value-now x y (Call.handOver g r c) e = refl
-value-now x y (Call.commit v) e = refl
-value-now x y (Call.abort v) e = refl
-value-now x y Call.force e = refl
-value-now x y (Call.flush p) e = refl
-value-now x y (Call.read c) e = rw e

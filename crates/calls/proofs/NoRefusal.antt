@@ -5,6 +5,7 @@ use mathlib.Core.Path.{_≡_, refl}
 use mathlib.Core.Bool.{Bool, true, false, not}
 use lib.IntN.{ℤ}
 use borrow.Author.Tests.{leb-false, ltb-true, not-false}
+use Rattle.book.specs.Limits.{visitLimit, activeLimit, pageLimit}
 use Rattle.book.specs.Rows.{isCell}
 use Rattle.book.specs.Calls.{Call}
 use Rattle.book.specs.Book.{_else_}
@@ -18,12 +19,16 @@ passed n false later e = (refl, e)
 
 module _ (x : Index) (rows : ℕ) where
   -- a visit's number and a vacant place
-  pub free-begin : refusalBy x rows Call.begin ≡ 0 → (x .tables .begun < 255) × (x .tables .count < 16)
+  pub free-begin : refusalBy x rows Call.begin ≡ 0 → (x .tables .begun < visitLimit) × (x .tables .count < activeLimit)
   unfolding refusalBy
   free-begin e =
       let visits = passed 5 _ _ e in
       let active = passed 6 _ _ (visits .1) in
-      (leb-false 255 _ (visits .0), leb-false 16 _ (active .0))
+      (leb-false visitLimit _ (visits .0), leb-false activeLimit _ (active .0))
+
+  -- the next visit's number has 16 bits
+  pub free-visit : (k : Call) → refusalBy x rows k ≡ 0 → k ≡ Call.begin → x .tables .begun < 65535
+  free-visit k e b = omega (arith, free-begin (rw b at e) .0)
 
   -- an entry of the scope table
   pub free-change : (v c : ℕ) (a : ℤ) → refusalBy x rows (Call.change v c a) ≡ 0 → hasEntry x v c ≡ true
@@ -35,6 +40,6 @@ module _ (x : Index) (rows : ℕ) where
       not-false _ (entry .0)
 
   -- a page
-  pub free-flush : (p : ℕ) → refusalBy x rows (Call.flush p) ≡ 0 → p < 32
+  pub free-flush : (p : ℕ) → refusalBy x rows (Call.flush p) ≡ 0 → p < pageLimit
   unfolding refusalBy
-  free-flush p e = let page = passed 13 _ _ e in ltb-true p 32 (not-false _ (page .0))
+  free-flush p e = let page = passed 13 _ _ e in ltb-true p pageLimit (not-false _ (page .0))

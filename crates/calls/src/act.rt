@@ -6,14 +6,14 @@ ghost use mathlib.Core.List.{List};
 ghost use lib.Dec.{leb};
 ghost use lib.IntN.{pos};
 ghost use lib.ListN.{length};
-ghost use Rattle.book.specs.Calls.{Call};
+ghost use Rattle.book.specs.Calls.{Call, returns};
 ghost use Rattle.rows.specs.Meaning.{meant};
 ghost use Rattle.tables_model.specs.declared.Tables.{Tables as TheTables};
 ghost use Rattle.tables_model.specs.Rows.{Steps, index, stepBy};
 ghost use Rattle.undo.specs.Writing.{ram, Fits, written};
-ghost use Rattle.calls_model.specs.Acts.{core, acted, Accepts, valueNow};
-ghost use Rattle.calls_model.specs.Requests.{callOf};
-use calls_model::Request;
+ghost use Rattle.state.specs.Answers.{numberAndValue, done};
+ghost use Rattle.state.specs.Requests.{callOf};
+ghost use Rattle.calls_model.specs.Acts.{core, acted, Accepts, valueFrom};
 use charts::charts::read_cell;
 use charts::charts::read_mark;
 use journal::Control;
@@ -24,9 +24,8 @@ use rows::Cell;
 use rows::Lsn;
 use rows::Row;
 use rows::Visit;
-use state::arguments::EndArgs;
-use state::arguments::FlushArgs;
-use state::arguments::HandOverArgs;
+use state::answers::Answer;
+use state::requests::Request;
 use tables::steps::step;
 use tables_model::Tables;
 use tables_model::Whom;
@@ -104,16 +103,14 @@ fn hand_over(
     copy: &mut [u8],
     tail: &mut [u8],
     scopes: &mut [u16],
-    a: HandOverArgs,
+    g: Visit,
+    r: Visit,
+    k: Cell,
 ) -> Acted
-    requires { ⌜ Accepts c t (length (now log)) (length (now copy)) (length (now tail)) (now scopes) (Call.handOver (a .giver .0) (a .receiver .0) (a .cell .0)) ⌝ }
-    ensures { λ r. ⌜ ((charts : List ℕ) → core (r .control) (r .tables) (now (log .exit)) charts (now (copy .exit)) (now (tail .exit)) (now (scopes .exit))
-        ≡ acted (core c t (now (log .entry)) charts (now (copy .entry)) (now (tail .entry)) (now (scopes .entry)))
-        (Call.handOver (a .giver .0) (a .receiver .0) (a .cell .0))) ⌝ }
+    requires { ⌜ Accepts c t (length (now log)) (length (now copy)) (length (now tail)) (now scopes) (Call.handOver (g .0) (r .0) (k .0)) ⌝ }
+    ensures { λ x. ⌜ ((charts : List ℕ) → core (x .control) (x .tables) (now (log .exit)) charts (now (copy .exit)) (now (tail .exit)) (now (scopes .exit))
+        ≡ acted (core c t (now (log .entry)) charts (now (copy .entry)) (now (tail .entry)) (now (scopes .entry))) (Call.handOver (g .0) (r .0) (k .0))) ⌝ }
 {
-    let g = a.giver;
-    let r = a.receiver;
-    let k = a.cell;
     add(c, t, log, copy, tail, scopes, Row::HandOver(g, r, k))
 }
 
@@ -125,13 +122,12 @@ fn commit(
     copy: &mut [u8],
     tail: &mut [u8],
     scopes: &mut [u16],
-    a: EndArgs,
+    v: Visit,
 ) -> Acted
-    requires { ⌜ Accepts c t (length (now log)) (length (now copy)) (length (now tail)) (now scopes) (Call.commit (a .visit .0)) ⌝ }
+    requires { ⌜ Accepts c t (length (now log)) (length (now copy)) (length (now tail)) (now scopes) (Call.commit (v .0)) ⌝ }
     ensures { λ r. ⌜ ((charts : List ℕ) → core (r .control) (r .tables) (now (log .exit)) charts (now (copy .exit)) (now (tail .exit)) (now (scopes .exit))
-        ≡ acted (core c t (now (log .entry)) charts (now (copy .entry)) (now (tail .entry)) (now (scopes .entry))) (Call.commit (a .visit .0))) ⌝ }
+        ≡ acted (core c t (now (log .entry)) charts (now (copy .entry)) (now (tail .entry)) (now (scopes .entry))) (Call.commit (v .0))) ⌝ }
 {
-    let v = a.visit;
     let added = add(c, t, log, copy, tail, scopes, Row::Commit(v));
     let with_row = added.control;
     let d = force(with_row, log, tail);
@@ -150,13 +146,12 @@ fn abort(
     copy: &mut [u8],
     tail: &mut [u8],
     scopes: &mut [u16],
-    a: EndArgs,
+    v: Visit,
 ) -> Acted
-    requires { ⌜ Accepts c t (length (now log)) (length (now copy)) (length (now tail)) (now scopes) (Call.abort (a .visit .0)) ⌝ }
+    requires { ⌜ Accepts c t (length (now log)) (length (now copy)) (length (now tail)) (now scopes) (Call.abort (v .0)) ⌝ }
     ensures { λ r. ⌜ ((charts : List ℕ) → core (r .control) (r .tables) (now (log .exit)) charts (now (copy .exit)) (now (tail .exit)) (now (scopes .exit))
-        ≡ acted (core c t (now (log .entry)) charts (now (copy .entry)) (now (tail .entry)) (now (scopes .entry))) (Call.abort (a .visit .0))) ⌝ }
+        ≡ acted (core c t (now (log .entry)) charts (now (copy .entry)) (now (tail .entry)) (now (scopes .entry))) (Call.abort (v .0))) ⌝ }
 {
-    let v = a.visit;
     let d = take_back(c, log, tail, copy, scopes, t.used, Whom::One(v));
     add(d, t, log, copy, tail, scopes, Row::Abort(v))
 }
@@ -182,13 +177,13 @@ fn flush(
     charts: &mut [u8],
     copy: &[u8],
     tail: &mut [u8],
-    a: FlushArgs,
+    page: u8,
 ) -> Control
-    requires { ⌜ Fits c (length (now log)) (length (now tail)) (length (now copy)) × (length (now charts) ≡ 1024) × (a .page < 32) ⌝ }
+    requires { ⌜ Fits c (length (now log)) (length (now tail)) (length (now copy)) × (length (now charts) ≡ 1024) × (page < 32) ⌝ }
     ensures { λ r. ⌜ ((t : TheTables) (scopes : List ℕ) → core r t (now (log .exit)) (now (charts .exit)) (now (copy .entry)) (now (tail .exit)) scopes
-        ≡ acted (core c t (now (log .entry)) (now (charts .entry)) (now (copy .entry)) (now (tail .entry)) scopes) (Call.flush (a .page))) ⌝ }
+        ≡ acted (core c t (now (log .entry)) (now (charts .entry)) (now (copy .entry)) (now (tail .entry)) scopes) (Call.flush page)) ⌝ }
 {
-    let p = a.page as usize;
+    let p = page as usize;
     let m = up_to_mark(c, read_mark(copy, p));
     let d = force_up_to(c, log, tail, m);
     let s = 32 * p;
@@ -213,14 +208,10 @@ pub fn act(
 {
     match request {
         Request::Begin => begin(c, t, log, copy, tail, scopes),
-        Request::Change(a) => {
-            let v = a.visit;
-            let k = a.cell;
-            change(c, t, log, copy, tail, scopes, v, k, a.amount)
-        }
-        Request::HandOver(a) => hand_over(c, t, log, copy, tail, scopes, a),
-        Request::Commit(a) => commit(c, t, log, copy, tail, scopes, a),
-        Request::Abort(a) => abort(c, t, log, copy, tail, scopes, a),
+        Request::Change(v, k, a) => change(c, t, log, copy, tail, scopes, v, k, a),
+        Request::HandOver(g, r, k) => hand_over(c, t, log, copy, tail, scopes, g, r, k),
+        Request::Commit(v) => commit(c, t, log, copy, tail, scopes, v),
+        Request::Abort(v) => abort(c, t, log, copy, tail, scopes, v),
         Request::Force => {
             let d = force(c, log, tail);
             Acted {
@@ -228,8 +219,8 @@ pub fn act(
                 tables: t,
             }
         }
-        Request::Flush(a) => {
-            let d = flush(c, log, charts, copy, tail, a);
+        Request::Flush(p) => {
+            let d = flush(c, log, charts, copy, tail, p);
             Acted {
                 control: d,
                 tables: t,
@@ -242,31 +233,27 @@ pub fn act(
     }
 }
 
-// A row's or a visit's number as a value.
-fn number_value(n: usize) -> i32
-    requires { ⌜ n ≤ 65536 ⌝ }
-    ensures { λ r. ⌜ r ≡ pos n ⌝ }
+// The answer of a call that returns its row's number.
+fn row_answer(rows: usize) -> Answer
+    requires { ⌜ rows ≤ 4096 ⌝ }
+    ensures { λ r. ⌜ numberAndValue r ≡ done (pos rows) ⌝ }
 {
-    n as i32
+    Answer::Row(Lsn(rows as u16))
 }
 
-// The value of an accepted request, by the visits begun before it, and the control and the copy after it.
-pub fn value_of(begun: u16, c: Control, copy: &[u8], request: Request) -> i32
-    requires { ⌜ (c .stored + c .waiting ≤ 4096) × (length (now copy) ≡ 1024) ⌝ }
-    ensures { λ r. ⌜ r ≡ valueNow begun c (now (copy .entry)) (callOf request) ⌝ }
+// The answer of an accepted request, by the visits begun before it, the rows after it, and the copy.
+pub fn answer_of(begun: u16, rows: usize, copy: &[u8], request: Request) -> Answer
+    requires { ⌜ (callOf request ≡ Call.begin → begun < 65535) × (rows ≤ 4096) × (length (now copy) ≡ 1024) ⌝ }
+    ensures { λ r. ⌜ numberAndValue r ≡ done (valueFrom begun rows (now (copy .entry)) (returns (callOf request))) ⌝ }
 {
-    let rows = c.stored + c.waiting;
     match request {
-        Request::Begin => number_value(begun as usize + 1),
-        Request::Change(_) => number_value(rows),
-        Request::HandOver(_) => number_value(rows),
-        Request::Commit(_) => number_value(rows),
-        Request::Abort(_) => number_value(rows),
-        Request::Force => 0,
-        Request::Flush(_) => 0,
-        Request::Read(a) => {
-            let k = a.cell;
-            read_cell(copy, k)
-        }
+        Request::Begin => Answer::Visit(Visit(begun + 1)),
+        Request::Change(_, _, _) => row_answer(rows),
+        Request::HandOver(_, _, _) => row_answer(rows),
+        Request::Commit(_) => row_answer(rows),
+        Request::Abort(_) => row_answer(rows),
+        Request::Force => Answer::Done,
+        Request::Flush(_) => Answer::Done,
+        Request::Read(k) => Answer::Grams(read_cell(copy, k)),
     }
 }

@@ -17,7 +17,7 @@ use Rattle.book.proofs.Lists.{clash}
 use Rattle.book.proofs.Steps.{bookOf}
 use Rattle.tables_model.specs.Rows.{Index}
 use Rattle.tables_model.specs.Meaning.{tablesOf, scopeTable, indexOf}
-use Rattle.state.specs.declared.ram.Scope as ram
+use Rattle.tables_model.specs.declared.Scope as ram
 use Rattle.state.specs.World.{World, openState, stateOf, tableOf, copyOf, worldOf, scopeOf, cleared}
 use Rattle.state.specs.Contracts.{Answered, answered}
 use Rattle.journal.specs.Journal.{Journal}

@@ -17,7 +17,7 @@ use Rattle.book.proofs.Invariant.{Inv}
 use Rattle.book.proofs.InvariantKept.{inv-log}
 use Rattle.tables_model.specs.Meaning.{scopeTable}
 use Rattle.tables_model.proofs.Reversed.{of-reverse}
-use Rattle.state.specs.declared.ram.Scope as ram
+use Rattle.tables_model.specs.declared.Scope as ram
 use Rattle.state.specs.World.{scopeOf}
 use Rattle.calls_model.specs.Perform.{structOf}
 

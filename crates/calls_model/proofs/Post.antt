@@ -6,7 +6,7 @@ use Rattle.calls_model.specs.Perform.{performed}
 use Rattle.calls_model.proofs.AnyWorld.{number-listed, wrong-lengths, closed-store, nothing-changes, power-failed}
 use Rattle.calls_model.proofs.ByTheBook.{by-the-book}
 
-pub performed-post : (w : World) (k : Call) → Typed k → CallPost k w (performed w k .answer) (performed w k .world)
+pub performed-post : (w : World) (k : Call) → Typed k → CallPost k w (performed w k)
 performed-post w k t = record {
   table = number-listed w k;
   lengths = wrong-lengths w k;

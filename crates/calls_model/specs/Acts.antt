@@ -8,7 +8,7 @@ use lib.IntN.{ℤ, pos}
 use lib.Dec.{leb}
 use Rattle.book.specs.Rows.{Row}
 use Rattle.book.specs.Scopes.{Scope}
-use Rattle.book.specs.Calls.{Call}
+use Rattle.book.specs.Calls.{Call, Return, theVisit, theRow, theCell, zeroValue, returns}
 use Rattle.book.specs.Pages.{pageAt, pageOf, cellOf}
 use Rattle.tables_model.specs.declared.Tables.{Tables}
 use Rattle.tables_model.specs.Entries.{entries}
@@ -87,27 +87,16 @@ acted x Call.force = withRam x (forcedRam (x .ram))
 acted x (Call.flush p) = flushed x p
 acted x (Call.read c) = x
 
--- the value of an accepted call, by what it was given and what it left
-unfoldable pub valueBy : Core → Core → Call → ℤ
-valueBy x y Call.begin = pos (suc (x .tables .begun))
-valueBy x y (Call.change v c a) = pos (rowCount (y .ram .journal))
-valueBy x y (Call.handOver g r c) = pos (rowCount (y .ram .journal))
-valueBy x y (Call.commit v) = pos (rowCount (y .ram .journal))
-valueBy x y (Call.abort v) = pos (rowCount (y .ram .journal))
-valueBy x y Call.force = pos 0
-valueBy x y (Call.flush p) = pos 0
-valueBy x y (Call.read c) = cellOf (x .ram .copy) c
+-- the value of an accepted call by what it returns: of the visits begun before it, the rows after it, and the copy
+abbrev pub valueFrom : ℕ → ℕ → List ℕ → Return → ℤ
+valueFrom begun rows copy theVisit = pos (suc begun)
+valueFrom begun rows copy theRow = pos rows
+valueFrom begun rows copy (theCell c) = cellOf copy c
+valueFrom begun rows copy zeroValue = pos 0
 
--- the same by what is at hand after the call: the visits begun before it, and the control and the copy after it
-unfoldable pub valueNow : ℕ → Control → List ℕ → Call → ℤ
-valueNow begun c copy Call.begin = pos (suc begun)
-valueNow begun c copy (Call.change v k a) = pos (c .stored + c .waiting)
-valueNow begun c copy (Call.handOver g r k) = pos (c .stored + c .waiting)
-valueNow begun c copy (Call.commit v) = pos (c .stored + c .waiting)
-valueNow begun c copy (Call.abort v) = pos (c .stored + c .waiting)
-valueNow begun c copy Call.force = pos 0
-valueNow begun c copy (Call.flush p) = pos 0
-valueNow begun c copy (Call.read k) = cellOf copy k
+-- by what the call was given and what it left
+unfoldable pub valueBy : Core → Core → Call → ℤ
+valueBy x y k = valueFrom (x .tables .begun) (rowCount (y .ram .journal)) (x .ram .copy) (returns k)
 
 -- ── What the functions ask ────────────────────────────────────────────────────────────────────────────────────────────
 

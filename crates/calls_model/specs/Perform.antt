@@ -10,16 +10,15 @@ use Rattle.book.specs.Limits.{logLength, chartsLength, rowLimit, tailLimit, act
 use Rattle.book.specs.Scopes.{Scope as Entry, unused}
 use Rattle.book.specs.Calls.{Call}
 use Rattle.book.specs.Book.{_else_}
+use Rattle.tables_model.specs.declared.Scope.{Scope}
 use Rattle.tables_model.specs.declared.Tables.{Tables}
 use Rattle.tables_model.specs.Entries.{entries}
 use Rattle.state.specs.declared.ram.State.{State}
-use Rattle.state.specs.declared.ram.Scope.{Scope}
-use Rattle.state.specs.World.{World, rightLengths, isOpenPhase, scopeOf, cleared}
+use Rattle.state.specs.Answers.{numberAndValue}
+use Rattle.state.specs.World.{World, world, rightLengths, isOpenPhase, scopeOf, cleared}
 use Rattle.state.specs.Contracts.{Answered, answered}
 use Rattle.journal.specs.declared.Control.{Control}
 use Rattle.undo.specs.Writing.{isRunning}
-use Rattle.calls_model.specs.declared.Performed.{Performed}
-use Rattle.calls_model.specs.declared.PerformedFree.{PerformedFree}
 use Rattle.calls_model.specs.declared.Done.{Done}
 use Rattle.calls_model.specs.Refusals.{refusalBy}
 use Rattle.calls_model.specs.Acts.{Core, acted, valueBy}
@@ -101,38 +100,16 @@ numberOf w k = (1, not (rightLengths w)) else numberBy (controlIn (w .state)) (w
 unfoldable pub performed : World → Call → Answered
 performed w k = decided w k (numberOf w k)
 
--- the same with the number of entries of the lent table given apart: another number than 64 is a wrong length
-abbrev pub performedAt : ℕ → World → Call → Answered
-performedAt n w k = cond (eqb n scopeLimit) (performed w k) (answered 1 (pos 0) w)
-
 -- ── What the functions are handed, leave and ask ──────────────────────────────────────────────────────────────────────
-
--- the state with the four lent buffers
-abbrev pub world : State → List ℕ → List ℕ → List ℕ → List Scope → World
-world s log charts copy table = record { state = s; log = log; charts = charts; copy = copy; scopes = table }
-
--- what the code's struct says, with the buffers beside it
-abbrev pub performedOf : Performed → List ℕ → List ℕ → List ℕ → Answered
-performedOf r log charts copy = answered (r .number) (r .value) (world (r .state) log charts copy (r .table))
-
--- the same of a call that has no use for the table, with a table beside it
-abbrev pub freeOf : PerformedFree → List ℕ → List ℕ → List ℕ → List Scope → Answered
-freeOf r log charts copy table = answered (r .number) (r .value) (world (r .state) log charts copy table)
-
--- The call on a table of unused entries comes to r, but for the table that it leaves.
-abbrev pub ComesTo : ℕ → State → List ℕ → List ℕ → List ℕ → Call → PerformedFree → List ℕ → List ℕ → List ℕ → Type 0
-ComesTo n s log charts copy k r log′ charts′ copy′ =
-    let given : Answered = performedAt n (world s log charts copy (replicate scopeLimit (scopeOf unused))) k in
-    freeOf r log′ charts′ copy′ (given .world .scopes) ≡ given
 
 -- the state by where the journal stands, the tables and the tail
 abbrev pub stateAfter : Control → Tables → List ℕ → State
 stateAfter c t tail = record { phase = c .phase; fuse = c .fuse; stored = c .stored; waiting = c .waiting; tables = t; tail = tail }
 
--- the same of a call that works in place, with the tail and the flat table beside it
+-- what the code's struct says, with the buffers, the tail and the flat table beside it
 abbrev pub doneOf : Done → List ℕ → List ℕ → List ℕ → List ℕ → List ℕ → Answered
 doneOf r log charts copy tail flat =
-    answered (r .number) (r .value) (world (stateAfter (r .control) (r .tables) tail) log charts copy (map structOf (entries flat)))
+    record { answer = numberAndValue (r .answer); world = world (stateAfter (r .control) (r .tables) tail) log charts copy (map structOf (entries flat)) }
 
 -- a call that no check refuses
 abbrev pub accepted : Core → Call → Answered

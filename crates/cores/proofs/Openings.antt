@@ -12,7 +12,7 @@ use Rattle.book.specs.Book.{Answer}
 use Rattle.book.proofs.AnyCharts.{AreBytes}
 use Rattle.state.specs.declared.ram.Fuse.{Fuse}
 use Rattle.state.specs.declared.ram.State.{State}
-use Rattle.state.specs.declared.ram.Scope.{Scope}
+use Rattle.tables_model.specs.declared.Scope.{Scope}
 use Rattle.state.specs.World.{World, rightLengths, allowance}
 use Rattle.state.specs.Contracts.{Answered, answered, formats, FormatPost, OpenPost}
 use Rattle.recovery_model.specs.Openings.{opensBy}

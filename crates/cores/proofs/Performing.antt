@@ -16,7 +16,7 @@ use Rattle.book.specs.Limits.{scopeLimit, logLength, chartsLength}
 use Rattle.book.specs.Calls.{Call, Typed, Return, theVisit, theRow, theCell, zeroValue, returns}
 use Rattle.book.specs.Book.{Answer, answer}
 use Rattle.state.specs.declared.ram.State.{State}
-use Rattle.state.specs.declared.ram.Scope.{Scope}
+use Rattle.tables_model.specs.declared.Scope.{Scope}
 use Rattle.state.specs.World.{World}
 use Rattle.state.specs.Contracts.{Answered, answered, numbers, CallPost}
 use Rattle.calls_model.specs.Perform.{performed, performedAt}

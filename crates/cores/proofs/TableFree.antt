@@ -22,7 +22,7 @@ use Rattle.book.proofs.Adds.{passes}
 use Rattle.book.proofs.Steps.{extends-through}
 use Rattle.tables_model.specs.Meaning.{scopeTable}
 use Rattle.state.specs.declared.ram.State.{State}
-use Rattle.state.specs.declared.ram.Scope.{Scope}
+use Rattle.tables_model.specs.declared.Scope.{Scope}
 use Rattle.state.specs.World.{World, isOpenPhase, scopeOf, tableOf, worldOf, Represents}
 use Rattle.state.specs.World as worlds
 use Rattle.state.specs.Contracts.{Answered, answered, byBook, CallPost}

@@ -10,7 +10,7 @@ use Rattle.book.specs.Limits.{scopeLimit}
 use Rattle.book.specs.Scopes.{unused}
 use Rattle.state.specs.World.{World, scopeOf}
 use Rattle.state.specs.declared.ram.State.{State}
-use Rattle.state.specs.declared.ram.Scope.{Scope}
+use Rattle.tables_model.specs.declared.Scope.{Scope}
 
 abbrev pub world : State → List ℕ → List ℕ → List ℕ → List Scope → World
 world state log charts copy scopes = record { state = state; log = log; charts = charts; copy = copy; scopes = scopes }

@@ -16,7 +16,7 @@ use Rattle.book.specs.LogBytes.{logBytes}
 use Rattle.book.specs.Pages.{chartBytes, pageAfter}
 use Rattle.book.specs.Opening.{openBytes}
 use Rattle.state.specs.declared.ram.State.{State}
-use Rattle.state.specs.declared.ram.Scope.{Scope}
+use Rattle.tables_model.specs.declared.Scope.{Scope}
 use Rattle.state.specs.World.{World, rightLengths, cleared}
 use Rattle.state.specs.Contracts.{Answered, answered, badCell, cellsOf, formats, opens, openedWorld, FormatPost, OpenPost}
 use Rattle.calls_model.specs.Perform.{world}

@@ -27,7 +27,7 @@ use Rattle.state.proofs.OpenedStores.{byOpening, opens-book, charts-accepted}
 use Rattle.state.proofs.Kept.{kept, represents-world}
 use Rattle.state.proofs.FormattedStores.{formatted-store}
 use Rattle.state.specs.declared.ram.State.{State}
-use Rattle.state.specs.declared.ram.Scope.{Scope}
+use Rattle.tables_model.specs.declared.Scope.{Scope}
 use Rattle.cores.specs.Lent.{world, blanks}
 use Rattle.sessions.proofs.Held.{represents}
 use Rattle.sessions.proofs.Demand.{held-formatted}

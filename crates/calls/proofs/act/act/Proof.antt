@@ -6,15 +6,6 @@ use Rattle.calls.proofs.NoRefusal.{free-flush}
 use borrow.Author.Needs.{needs}
 use Rattle.calls.proofs.act.act.Statement.{statement}
 use Rattle.calls.proofs.act.act.Tie as tie
-use Rattle.calls.proofs.act.act.Reads as reads
-use Rattle.calls.proofs.act.act.Lts as lts
-use Rattle.calls.proofs.act.abort.Reads as abort-reads
-use Rattle.calls.proofs.act.begin.Reads as begin-reads
-use Rattle.calls.proofs.act.change.Reads as change-reads
-use Rattle.calls.proofs.act.commit.Reads as commit-reads
-use Rattle.calls.proofs.act.flush.Reads as flush-reads
-use Rattle.calls.proofs.act.hand_over.Reads as hand-over-reads
-use Rattle.journal.proofs.force.force.Reads as force-reads
 
 enum-told : tie.Need-enum-told
 enum-told c = search needs
@@ -27,8 +18,8 @@ enum-known-request c = search needs
 
 change-requires : tie.Need-change-requires
 change-requires c κs =
-    let fit = toZ-ofZ {w = w16} {z = (c .before .before .before .before .before .before .before .before .request .given .0 .0 .amount)} (search needs) in
-    rw fit (rw ((c .before .before .before .before .before .before .before .before .request .given .1)) at (c .before .before .before .before .before .before .before .before .before .before .before .before .before .before .before .pre .0))
+    let fit = toZ-ofZ {w = w16} {z = (c .before .before .before .before .before .request .given .0 .1 .1 .0)} (search needs) in
+    rw fit (rw ((c .before .before .before .before .before .request .given .1)) at (c .before .before .before .before .before .before .before .before .before .before .before .before .pre .0))
 
 enum-known-request-2 : tie.Need-enum-known-request-2
 enum-known-request-2 c = search needs
@@ -94,8 +85,8 @@ same-length-8 c = search needs
 
 returns-2 : tie.Need-returns-2
 returns-2 c =
-    let fit = toZ-ofZ {w = w16} {z = (c .before .before .before .before .before .before .before .before .before .before .before .before .before .before .before .before .before .request .given .0 .0 .amount)} (search needs) in
-    rw ((c .before .before .before .before .before .before .before .before .before .before .before .before .before .before .before .before .before .request .given .1)) (rw fit at ((c .before .before .before .before .before .before .before .before .change .ensures) (c .before .before .before .before .before .before .before .before .before .before .before .before .before .before .before .before .before .before .before .before .before .before .before .before .args .charts .now)))
+    let fit = toZ-ofZ {w = w16} {z = (c .before .before .before .before .before .before .before .before .before .before .before .before .before .before .request .given .0 .1 .1 .0)} (search needs) in
+    rw ((c .before .before .before .before .before .before .before .before .before .before .before .before .before .before .request .given .1)) (rw fit at ((c .before .before .before .before .before .before .before .before .change .ensures) (c .before .before .before .before .before .before .before .before .before .before .before .before .before .before .before .before .before .before .before .before .before .args .charts .now)))
 
 same-length-9 : tie.Need-same-length-9
 same-length-9 c = search needs

@@ -4,10 +4,6 @@ use Prim.Native.Nat.{_+_}
 use borrow.Author.Needs.{needs}
 use Rattle.calls.proofs.act.add.Statement.{statement}
 use Rattle.calls.proofs.act.add.Tie as tie
-use Rattle.calls.proofs.act.add.Reads as reads
-use Rattle.calls.proofs.act.add.Lts as lts
-use Rattle.tables.proofs.steps.step.Reads as step-reads
-use Rattle.undo.proofs.write.write.Reads as write-reads
 
 add-t11 : tie.Need-add-t11
 add-t11 c = search needs

@@ -9,9 +9,6 @@ use Rattle.calls.proofs.CallSteps.{row-added, begins}
 use borrow.Author.Needs.{needs}
 use Rattle.calls.proofs.act.begin.Statement.{statement}
 use Rattle.calls.proofs.act.begin.Tie as tie
-use Rattle.calls.proofs.act.begin.Reads as reads
-use Rattle.calls.proofs.act.begin.Lts as lts
-use Rattle.calls.proofs.act.add.Reads as add-reads
 
 add-t8 : tie.Need-add-t8
 add-t8 c =

@@ -7,9 +7,6 @@ use Rattle.calls.proofs.CallSteps.{row-added, changes}
 use borrow.Author.Needs.{needs}
 use Rattle.calls.proofs.act.change.Statement.{statement}
 use Rattle.calls.proofs.act.change.Tie as tie
-use Rattle.calls.proofs.act.change.Reads as reads
-use Rattle.calls.proofs.act.change.Lts as lts
-use Rattle.calls.proofs.act.add.Reads as add-reads
 
 add-requires : tie.Need-add-requires
 add-requires c κs =

@@ -7,20 +7,16 @@ use Rattle.calls.proofs.CallSteps.{commits}
 use borrow.Author.Needs.{needs}
 use Rattle.calls.proofs.act.commit.Statement.{statement}
 use Rattle.calls.proofs.act.commit.Tie as tie
-use Rattle.calls.proofs.act.commit.Reads as reads
-use Rattle.calls.proofs.act.commit.Lts as lts
-use Rattle.calls.proofs.act.add.Reads as add-reads
-use Rattle.journal.proofs.force.force.Reads as force-reads
 
 add-requires : tie.Need-add-requires
 add-requires c κs = search needs
 
 force-requires : tie.Need-force-requires
 force-requires c κs =
-    let s = (c .before .before .before .before .before .before .before .before .before .before .before .before .before .before .before .before .before .before .before .before .before) in
+    let s = (c .before .before .before .before .before .before .before .before .before .before .before .before .before .before .before .before .before .before .before .before) in
     let a = s .args in
     let f = (c .before .before .before .before .before .before .before .before .before .before .before .add) in
-    let n = rw (← f .ensures .0) at (counters-written (ram (a .c) (a .log .now) (a .tail .now) (a .copy .now)) (Row.commit (a .a .visit .0)) (counters (s .pre .fits))) in
+    let n = rw (← f .ensures .0) at (counters-written (ram (a .c) (a .log .now) (a .tail .now) (a .copy .now)) (Row.commit (a .v .0)) (counters (s .pre .fits))) in
     fits-again (s .pre .fits) n (f .kept .1 .1 .0) (f .kept .1 .1 .1 .1 .0) (f .kept .1 .1 .1 .0) .sizes
 
 same-length : tie.Need-same-length
@@ -37,7 +33,7 @@ same-length-4 c = search needs
 
 returns : tie.Need-returns
 returns c =
-    let a = (c .before .before .before .before .before .before .before .before .before .before .before .before .before .before .before .before .before .before .before .before .before .before .before .before .before .before .before .args) in
+    let a = (c .before .before .before .before .before .before .before .before .before .before .before .before .before .before .before .before .before .before .before .before .before .before .before .before .before .before .args) in
     let e = (c .before .before .before .before .before .before .before .before .before .before .before .before .before .before .before .before .before .add .ensures) in
     λ charts. commits (core (a .c) (a .t) (a .log .now) charts (a .copy .now) (a .tail .now) (a .scopes .now)) _ _ _ _ (e .0) (e .1) (c .before .before .before .before .before .force .ensures)
 

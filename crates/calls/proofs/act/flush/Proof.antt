@@ -7,15 +7,6 @@ use Rattle.calls.proofs.CallSteps.{flushes}
 use borrow.Author.Needs.{needs}
 use Rattle.calls.proofs.act.flush.Statement.{statement}
 use Rattle.calls.proofs.act.flush.Tie as tie
-use Rattle.calls.proofs.act.flush.Reads as reads
-use Rattle.calls.proofs.act.flush.Lts as lts
-use Rattle.calls.proofs.act.up_to_mark.Reads as up-to-mark-reads
-use Rattle.charts.proofs.charts.read_mark.Reads as read-mark-reads
-use Rattle.journal.proofs.force.force_up_to.Reads as force-up-to-reads
-use Rattle.journal.proofs.pages.write_page.Reads as write-page-reads
-
-cast-p : tie.Need-cast-p
-cast-p c = search needs
 
 read-mark-requires : tie.Need-read-mark-requires
 read-mark-requires c κs = search needs
@@ -55,16 +46,15 @@ same-length-3 c = search needs
 
 returns : tie.Need-returns
 returns c =
-    let a = (c .before .before .before .before .before .before .before .before .before .before .before .before .before .before .before .before .before .before .before .args) in
-    let e : 32 * a .a .page + 32 - 32 * a .a .page ≡ 32 = omega arith in
+    let a = (c .before .before .before .before .before .before .before .before .before .before .before .before .before .before .before .before .before .before .args) in
+    let e : 32 * a .page + 32 - 32 * a .page ≡ 32 = omega arith in
     let m = rw (c .before .before .before .before .before .before .before .before .before .before .before .before .before .read-mark .ensures) at (c .before .before .before .before .before .before .before .before .before .before .before .before .up-to-mark .ensures .0) in
-    λ t scopes. flushes (core (a .c) t (a .log .now) (a .charts .now) (a .copy .now) (a .tail .now) scopes) (a .a .page) _ _ _ m (c .before .before .before .before .before .before .before .before .before .force-up-to .ensures) (rw e at (c .before .before .write-page .ensures))
+    λ t scopes. flushes (core (a .c) t (a .log .now) (a .charts .now) (a .copy .now) (a .tail .now) scopes) (a .page) _ _ _ m (c .before .before .before .before .before .before .before .before .before .force-up-to .ensures) (rw e at (c .before .before .write-page .ensures))
 
 pub flush-spec : {M : Type 1} → statement M
 flush-spec =
     tie.close
     (tie.spec
-    cast-p
     read-mark-requires
     up-to-mark-requires
     force-up-to-requires

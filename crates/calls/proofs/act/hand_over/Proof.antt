@@ -5,9 +5,6 @@ use Rattle.calls.proofs.CallSteps.{row-added, hands-over}
 use borrow.Author.Needs.{needs}
 use Rattle.calls.proofs.act.hand_over.Statement.{statement}
 use Rattle.calls.proofs.act.hand_over.Tie as tie
-use Rattle.calls.proofs.act.hand_over.Reads as reads
-use Rattle.calls.proofs.act.hand_over.Lts as lts
-use Rattle.calls.proofs.act.add.Reads as add-reads
 
 add-requires : tie.Need-add-requires
 add-requires c κs = search needs
@@ -26,7 +23,7 @@ same-length-4 c = search needs
 
 returns : tie.Need-returns
 returns c =
-    let a = (c .before .before .before .before .before .before .before .before .before .before .before .before .before .before .before .before .before .before .before .before .args) in
+    let a = (c .before .before .before .before .before .before .before .before .before .before .before .before .before .before .before .before .before .args) in
     let e = (c .before .before .before .before .before .before .before .before .add .ensures) in
     λ charts. let x = core (a .c) (a .t) (a .log .now) charts (a .copy .now) (a .tail .now) (a .scopes .now) in row-added x _ _ _ (e .0) (e .1) ∙ hands-over x _ _ _
 

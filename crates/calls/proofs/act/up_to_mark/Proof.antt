@@ -6,8 +6,6 @@ use borrow.Author.Tests.{le-leb, lt-leb}
 use borrow.Author.Needs.{needs}
 use Rattle.calls.proofs.act.up_to_mark.Statement.{statement}
 use Rattle.calls.proofs.act.up_to_mark.Tie as tie
-use Rattle.calls.proofs.act.up_to_mark.Reads as reads
-use Rattle.calls.proofs.act.up_to_mark.Lts as lts
 
 cast-n : tie.Need-cast-n
 cast-n c = search needs

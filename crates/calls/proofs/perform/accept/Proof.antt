@@ -1,11 +1,11 @@
 -- `calls::perform::accept` meets its contract. Assumes nothing.
 use mathlib.Core.Path.{_≡_, refl, _∙_}
-use mir.Syntax.{w32}
-use mir.Facts.{toZ-ofZ}
+use native.Mathlib.Omega.{arith}
 use Rattle.undo.proofs.Counters.{Counters, counters}
 use Rattle.calls_model.specs.Acts.{Core, core, acted}
-use Rattle.calls_model.specs.Requests.{callOf}
+use Rattle.state.specs.Requests.{callOf}
 use Rattle.calls.proofs.CountersAfter.{counters-acted}
+use Rattle.calls.proofs.NoRefusal.{free-visit}
 use Rattle.calls.proofs.Performing.{when-cut, when-done}
 use borrow.Author.Needs.{needs}
 use Rattle.calls.proofs.perform.accept.Statement.{statement}
@@ -64,9 +64,14 @@ returns c =
 enum-told-2 : tie.Need-enum-told-2
 enum-told-2 c = search needs
 
-value-of-requires : tie.Need-value-of-requires
-value-of-requires c κs =
-    let a = c .before .before .before .before .before .before .before .before .before .before .before .before .before .before in (left-counters a .room, a .act .kept .1 .1 .1 .1 .0 ∙ c .before .before .before .before .before .before .before .before .before .before .before .before .before .before .before .before .before .before .before .before .before .before .before .before .before .pre .0 .fits .copy-long)
+add-answer-of : tie.Need-add-answer-of
+add-answer-of c = omega (arith, left-counters (c .before .before .before .before .before .before .before .before .before .before .before .before .before .before) .room)
+
+answer-of-requires : tie.Need-answer-of-requires
+answer-of-requires c κs =
+    let a = c .before .before .before .before .before .before .before .before .before .before .before .before .before .before .before in
+    let p = c .before .before .before .before .before .before .before .before .before .before .before .before .before .before .before .before .before .before .before .before .before .before .before .before .before .before .pre .0 in
+    (free-visit _ _ _ (p .free), left-counters a .room, a .act .kept .1 .1 .1 .1 .0 ∙ p .fits .copy-long)
 
 same-length-6 : tie.Need-same-length-6
 same-length-6 c = search needs
@@ -85,11 +90,9 @@ same-length-10 c = search needs
 
 returns-2 : tie.Need-returns-2
 returns-2 c =
-    let a = c .before .before .before .before .before .before .before .before .before .before .before .before .before .before .before .before in
-    let s = c .before .before .before .before .before .before .before .before .before .before .before .before .before .before .before .before .before .before .before .before .before .before .before .before .before .before .before in
-    rw (toZ-ofZ {w = w32} {z = c .before .value-of .result} (search needs))
-    (when-done (given s) (left a) (callOf (s .args .request)) (left-is a) (c .before .value-of .result) _ _ (c .before .before .before .enum-told2 .given .1)
-    (c .before .value-of .ensures) refl refl)
+    let a = c .before .before .before .before .before .before .before .before .before .before .before .before .before .before .before .before .before in
+    let s = c .before .before .before .before .before .before .before .before .before .before .before .before .before .before .before .before .before .before .before .before .before .before .before .before .before .before .before .before in
+    when-done (given s) (left a) (callOf (s .args .request)) (left-is a) _ _ _ (c .before .before .before .before .enum-told2 .given .1) (c .before .answer-of .ensures) refl refl
 
 pub accept-spec : {M : Type 1} → statement M
 accept-spec =
@@ -105,7 +108,8 @@ accept-spec =
     same-length-5
     returns
     enum-told-2
-    value-of-requires
+    add-answer-of
+    answer-of-requires
     same-length-6
     same-length-7
     same-length-8

@@ -2,9 +2,6 @@
 use borrow.Author.Needs.{needs}
 use Rattle.calls.proofs.refuse.has_entry.Statement.{statement}
 use Rattle.calls.proofs.refuse.has_entry.Tie as tie
-use Rattle.calls.proofs.refuse.has_entry.Reads as reads
-use Rattle.calls.proofs.refuse.has_entry.Lts as lts
-use Rattle.tables.proofs.rules.grows_scope.Reads as grows-scope-reads
 
 grows-scope-requires : tie.Need-grows-scope-requires
 grows-scope-requires c κs = search needs

@@ -3,14 +3,6 @@ use Rattle.calls_model.specs.Refusals.{refusalBy}
 use borrow.Author.Needs.{needs}
 use Rattle.calls.proofs.refuse.refuse.Statement.{statement}
 use Rattle.calls.proofs.refuse.refuse.Tie as tie
-use Rattle.calls.proofs.refuse.refuse.Reads as reads
-use Rattle.calls.proofs.refuse.refuse.Lts as lts
-use Rattle.calls.proofs.refuse.refuse_begin.Reads as refuse-begin-reads
-use Rattle.calls.proofs.refuse.refuse_change.Reads as refuse-change-reads
-use Rattle.calls.proofs.refuse.refuse_end.Reads as refuse-end-reads
-use Rattle.calls.proofs.refuse.refuse_flush.Reads as refuse-flush-reads
-use Rattle.calls.proofs.refuse.refuse_hand_over.Reads as refuse-hand-over-reads
-use Rattle.calls.proofs.refuse.refuse_read.Reads as refuse-read-reads
 
 enum-told : tie.Need-enum-told
 enum-told c = search needs
@@ -61,7 +53,7 @@ returns : tie.Need-returns
 returns c = rw ((c .before .enum-told .given .1)) (c .refuse-begin .ensures)
 
 returns-2 : tie.Need-returns-2
-returns-2 c = rw ((c .before .before .request .given .1)) (c .refuse-change .ensures)
+returns-2 c = rw ((c .before .before .request .given .1)) (c .refuse-change .ensures _)
 
 returns-3 : tie.Need-returns-3
 returns-3 c = rw ((c .before .before .request2 .given .1)) (c .refuse-hand-over .ensures)

@@ -4,9 +4,6 @@ use Rattle.calls_model.specs.Refusals.{refusalBy}
 use borrow.Author.Needs.{needs}
 use Rattle.calls.proofs.refuse.refuse_begin.Statement.{statement}
 use Rattle.calls.proofs.refuse.refuse_begin.Tie as tie
-use Rattle.calls.proofs.refuse.refuse_begin.Reads as reads
-use Rattle.calls.proofs.refuse.refuse_begin.Lts as lts
-use Rattle.tables.proofs.rules.has_room.Reads as has-room-reads
 
 returns : tie.Need-returns
 unfolding refusalBy

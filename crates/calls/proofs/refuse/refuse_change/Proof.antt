@@ -3,44 +3,38 @@ use Rattle.calls_model.specs.Refusals.{refusalBy}
 use borrow.Author.Needs.{needs}
 use Rattle.calls.proofs.refuse.refuse_change.Statement.{statement}
 use Rattle.calls.proofs.refuse.refuse_change.Tie as tie
-use Rattle.calls.proofs.refuse.refuse_change.Reads as reads
-use Rattle.calls.proofs.refuse.refuse_change.Lts as lts
-use Rattle.calls.proofs.refuse.has_entry.Reads as has-entry-reads
-use Rattle.rows.proofs.ranges.is_cell.Reads as is-cell-reads
-use Rattle.tables.proofs.rules.has_room.Reads as has-room-reads
-use Rattle.tables.proofs.visits.is_listed.Reads as is-listed-reads
 
 is-listed-requires : tie.Need-is-listed-requires
 is-listed-requires c κs = search needs
 
 returns : tie.Need-returns
 unfolding refusalBy
-returns c = rw (← (c .before .is-listed .ensures), (c .if1 .taken))
+returns c = λ a. rw (← (c .before .is-listed .ensures), (c .if1 .taken))
 
 is-cell-requires : tie.Need-is-cell-requires
 is-cell-requires c κs = search needs
 
 returns-2 : tie.Need-returns-2
 unfolding refusalBy
-returns-2 c = rw (← (c .before .before .before .is-listed .ensures), (c .before .before .if1 .left), ← (c .before .is-cell .ensures), (c .if2 .taken))
+returns-2 c = λ a. rw (← (c .before .before .before .is-listed .ensures), (c .before .before .if1 .left), ← (c .before .is-cell .ensures), (c .if2 .taken))
 
 has-entry-requires : tie.Need-has-entry-requires
 has-entry-requires c κs = search needs
 
 returns-3 : tie.Need-returns-3
 unfolding refusalBy
-returns-3 c = rw (← (c .before .before .before .before .before .is-listed .ensures), (c .before .before .before .before .if1 .left), ← (c .before .before .before .is-cell .ensures), (c .before .before .if2 .left), ← (c .before .has-entry .ensures), (c .if3 .taken))
+returns-3 c = λ a. rw (← (c .before .before .before .before .before .is-listed .ensures), (c .before .before .before .before .if1 .left), ← (c .before .before .before .is-cell .ensures), (c .before .before .if2 .left), ← (c .before .has-entry .ensures), (c .if3 .taken))
 
 has-room-requires : tie.Need-has-room-requires
 has-room-requires c κs = search needs
 
 returns-4 : tie.Need-returns-4
 unfolding refusalBy
-returns-4 c = rw (← (c .before .before .before .before .before .before .before .is-listed .ensures), (c .before .before .before .before .before .before .if1 .left), ← (c .before .before .before .before .before .is-cell .ensures), (c .before .before .before .before .if2 .left), ← (c .before .before .before .has-entry .ensures), (c .before .before .if3 .left), ← (c .before .has-room .ensures), (c .if4 .taken))
+returns-4 c = λ a. rw (← (c .before .before .before .before .before .before .before .is-listed .ensures), (c .before .before .before .before .before .before .if1 .left), ← (c .before .before .before .before .before .is-cell .ensures), (c .before .before .before .before .if2 .left), ← (c .before .before .before .has-entry .ensures), (c .before .before .if3 .left), ← (c .before .has-room .ensures), (c .if4 .taken))
 
 returns-5 : tie.Need-returns-5
 unfolding refusalBy
-returns-5 c = rw (← (c .before .before .before .before .before .before .before .is-listed .ensures), (c .before .before .before .before .before .before .if1 .left), ← (c .before .before .before .before .before .is-cell .ensures), (c .before .before .before .before .if2 .left), ← (c .before .before .before .has-entry .ensures), (c .before .before .if3 .left), ← (c .before .has-room .ensures), (c .if4 .left))
+returns-5 c = λ a. rw (← (c .before .before .before .before .before .before .before .is-listed .ensures), (c .before .before .before .before .before .before .if1 .left), ← (c .before .before .before .before .before .is-cell .ensures), (c .before .before .before .before .if2 .left), ← (c .before .before .before .has-entry .ensures), (c .before .before .if3 .left), ← (c .before .has-room .ensures), (c .if4 .left))
 
 pub refuse-change-spec : {M : Type 1} → statement M
 refuse-change-spec =

@@ -2,9 +2,6 @@
 use borrow.Author.Needs.{needs}
 use Rattle.calls.proofs.refuse.refuse_end.Statement.{statement}
 use Rattle.calls.proofs.refuse.refuse_end.Tie as tie
-use Rattle.calls.proofs.refuse.refuse_end.Reads as reads
-use Rattle.calls.proofs.refuse.refuse_end.Lts as lts
-use Rattle.tables.proofs.visits.is_listed.Reads as is-listed-reads
 
 is-listed-requires : tie.Need-is-listed-requires
 is-listed-requires c κs = search needs

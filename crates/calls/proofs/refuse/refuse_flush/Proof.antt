@@ -2,8 +2,6 @@
 use borrow.Author.Tests.{lt-ltb, le-ltb}
 use Rattle.calls.proofs.refuse.refuse_flush.Statement.{statement}
 use Rattle.calls.proofs.refuse.refuse_flush.Tie as tie
-use Rattle.calls.proofs.refuse.refuse_flush.Reads as reads
-use Rattle.calls.proofs.refuse.refuse_flush.Lts as lts
 
 returns : tie.Need-returns
 returns c = rw (lt-ltb _ _ (c .if1 .taken))

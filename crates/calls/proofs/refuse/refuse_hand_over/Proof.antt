@@ -4,12 +4,6 @@ use Rattle.calls_model.specs.Refusals.{refusalBy}
 use borrow.Author.Needs.{needs}
 use Rattle.calls.proofs.refuse.refuse_hand_over.Statement.{statement}
 use Rattle.calls.proofs.refuse.refuse_hand_over.Tie as tie
-use Rattle.calls.proofs.refuse.refuse_hand_over.Reads as reads
-use Rattle.calls.proofs.refuse.refuse_hand_over.Lts as lts
-use Rattle.rows.proofs.ranges.is_cell.Reads as is-cell-reads
-use Rattle.tables.proofs.lookup.holds_cell.Reads as holds-cell-reads
-use Rattle.tables.proofs.rules.has_room.Reads as has-room-reads
-use Rattle.tables.proofs.visits.is_listed.Reads as is-listed-reads
 
 is-listed-requires : tie.Need-is-listed-requires
 is-listed-requires c κs = search needs

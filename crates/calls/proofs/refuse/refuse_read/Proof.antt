@@ -2,9 +2,6 @@
 use borrow.Author.Needs.{needs}
 use Rattle.calls.proofs.refuse.refuse_read.Statement.{statement}
 use Rattle.calls.proofs.refuse.refuse_read.Tie as tie
-use Rattle.calls.proofs.refuse.refuse_read.Reads as reads
-use Rattle.calls.proofs.refuse.refuse_read.Lts as lts
-use Rattle.rows.proofs.ranges.is_cell.Reads as is-cell-reads
 
 is-cell-requires : tie.Need-is-cell-requires
 is-cell-requires c κs = search needs

@@ -6,7 +6,7 @@ use mir.Syntax.{w32}
 use mir.Facts.{toZ-ofZ}
 use Rattle.book.specs.Book.{answer}
 use Rattle.book.specs.Calls.{Call}
-use Rattle.state.specs.declared.ram.Scope.{Scope}
+use Rattle.tables_model.specs.declared.Scope.{Scope}
 use Rattle.calls_model.specs.Perform.{performedAt}
 use Rattle.cores.specs.Lent.{world, blanks}
 use Rattle.cores.proofs.Performing.{answered}

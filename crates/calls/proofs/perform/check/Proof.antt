@@ -1,19 +1,19 @@
--- `calls::perform::number_of` meets its contract. Assumes nothing.
+-- `calls::perform::check` meets its contract. Assumes nothing.
 use mathlib.Core.Path.{_≡_, sym, _∙_}
 use native.Mathlib.Omega.{arith}
 use borrow.Author.Tests.{not-true, not-false}
 use Rattle.tables_model.specs.Entries.{entries}
-use Rattle.calls_model.specs.Requests.{callOf}
+use Rattle.state.specs.Requests.{callOf}
 use Rattle.calls.proofs.Performing.{Coherent, coherent, when-closed, when-incoherent, when-coherent}
 use borrow.Author.Needs.{needs}
-use Rattle.calls.proofs.perform.number_of.Statement.{statement}
-use Rattle.calls.proofs.perform.number_of.Tie as tie
+use Rattle.calls.proofs.perform.check.Statement.{statement}
+use Rattle.calls.proofs.perform.check.Tie as tie
 
 enum-told : tie.Need-enum-told
 enum-told c = search needs
 
 returns : tie.Need-returns
-returns c = search needs
+returns c = let x = c .before .before .before .args in when-closed (x .c) (x .t) (entries (x .flat .now)) (callOf (x .request)) (c .enum-told .given .1)
 
 enum-told-2 : tie.Need-enum-told-2
 enum-told-2 c = search needs
@@ -44,5 +44,5 @@ returns-3 c =
     when-coherent (x .c) (x .t) (entries (x .flat .now)) (callOf (x .request)) (c .before .before .before .before .enum-told2 .given .1)
     (sym (c .before .before .before .is-coherent .ensures) ∙ not-false _ (c .before .before .if1 .left))
 
-pub number-of-spec : {M : Type 1} → statement M
-number-of-spec = tie.close (tie.spec enum-told returns enum-told-2 is-coherent-requires returns-2 add-refuse refuse-requires returns-3)
+pub check-spec : {M : Type 1} → statement M
+check-spec = tie.close (tie.spec enum-told returns enum-told-2 is-coherent-requires returns-2 add-refuse refuse-requires returns-3)
