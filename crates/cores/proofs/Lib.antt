@@ -1,5 +1,2 @@
--- The lemmas of cores.
-pub mod Answering
-pub mod Performing
-pub mod TableFree
-pub mod Openings
+mod Crossings
+mod Performing

@@ -4,7 +4,7 @@ ghost use Rattle.cores.specs.Lent.{zeroScope, blanks};
 use rows::Cell;
 use rows::Lsn;
 use rows::Visit;
-use state::ram::Scope;
+use tables_model::Scope;
 
 // An entry that is not in use.
 pub fn unused() -> Scope

@@ -1,6 +1,6 @@
-// The ten public calls with their own arguments and answers, the scope table by value. Each is covered code; what crosses to the lent table is above.
-pub mod answers; // from document 01's number and value to a call's own answer
-pub mod cores; // the calls of an open store
+// The public calls with the scope table by value: state and table go over into the parts that a call works on, and back. Each is covered code; what crosses
+// to the lent table is above.
+pub mod call; // the calls of an open store
+pub mod crossing; // the scope table between its structs and its flat form
 pub mod entries; // blank entries of the scope table
-pub mod opening; // format and open
 pub mod outs; // what the cores give back

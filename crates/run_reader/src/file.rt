@@ -5,22 +5,17 @@ ghost use Prim.Native.Nat.{_+_, _*_, _≤_};
 ghost use lib.ListN.{length};
 ghost use Rattle.book.specs.Numbers.{number, signed as signedOf};
 ghost use Rattle.state.specs.World.{allowance};
-ghost use Rattle.calls_model.specs.Requests.{callOf};
+ghost use Rattle.state.specs.Requests.{callOf};
 ghost use Rattle.run_reader.specs.Fields.{isCall};
-ghost use Rattle.run_reader.specs.File.{callAt, isCallAt, areCalls, entryAt, fuseAt, startAt, callsAt, areBodies, isRunFile};
-use calls_model::Request;
+ghost use Rattle.run_reader.specs.File.{entryLength, callLength, callAt, isCallAt, areCalls, entryAt, fuseAt, startAt, callsAt, areBodies, isRunFile};
 use rows::Cell;
 use rows::Visit;
 use rows::numbers::index;
 use rows::numbers::signed;
 use rows::numbers::wide;
 use rows::numbers::word;
-use state::arguments::ChangeArgs;
-use state::arguments::EndArgs;
-use state::arguments::FlushArgs;
-use state::arguments::HandOverArgs;
-use state::arguments::ReadArgs;
 use state::ram::Fuse;
+use state::requests::Request;
 
 // Sizes in bytes.
 const FILE_LIMIT: usize = 4096;
@@ -53,7 +48,7 @@ fn read32(file: &[u8], at: usize) -> u32
 
 // The fuse of entry i.
 pub fn fuse_at(file: &[u8], i: usize) -> Fuse
-    requires { ⌜ entryAt i + 8 ≤ length (now file) ⌝ }
+    requires { ⌜ entryAt i + entryLength ≤ length (now file) ⌝ }
     ensures { λ r. ⌜ allowance r ≡ fuseAt (now (file .entry)) i ⌝ }
 {
     let writes = read32(file, 1 + ENTRY_LENGTH * i);
@@ -66,7 +61,7 @@ pub fn fuse_at(file: &[u8], i: usize) -> Fuse
 
 // Where entry i says that its body starts.
 fn start_at(file: &[u8], i: usize) -> usize
-    requires { ⌜ entryAt i + 8 ≤ length (now file) ⌝ }
+    requires { ⌜ entryAt i + entryLength ≤ length (now file) ⌝ }
     ensures { λ r. ⌜ r ≡ startAt (now (file .entry)) i ⌝ }
 {
     read16(file, 1 + ENTRY_LENGTH * i + 4) as usize
@@ -74,15 +69,15 @@ fn start_at(file: &[u8], i: usize) -> usize
 
 // The number of calls of entry i.
 pub fn calls_at(file: &[u8], i: usize) -> usize
-    requires { ⌜ entryAt i + 8 ≤ length (now file) ⌝ }
+    requires { ⌜ entryAt i + entryLength ≤ length (now file) ⌝ }
     ensures { λ r. ⌜ r ≡ callsAt (now (file .entry)) i ⌝ }
 {
     read16(file, 1 + ENTRY_LENGTH * i + 6) as usize
 }
 
-// The call that the 6 bytes from `at` on would be, by their code, whatever the others are.
+// The call that the bytes from `at` on would be, by their code, whatever the others are.
 pub fn call_at(file: &[u8], at: usize) -> Request
-    requires { ⌜ at + 6 ≤ length (now file) ⌝ }
+    requires { ⌜ at + callLength ≤ length (now file) ⌝ }
     ensures { λ r. ⌜ callOf r ≡ callAt (now (file .entry)) at ⌝ }
 {
     let visit = Visit(wide(file[at + 1]));
@@ -90,25 +85,17 @@ pub fn call_at(file: &[u8], at: usize) -> Request
     match file[at] {
         0 => Request::Begin,
         1 => Request::Begin,
-        2 => Request::Change(ChangeArgs {
-            visit,
-            cell,
-            amount: signed(read16(file, at + 4)),
-        }),
-        3 => Request::HandOver(HandOverArgs {
-            giver: visit,
-            receiver: Visit(wide(file[at + 2])),
-            cell,
-        }),
-        4 => Request::Commit(EndArgs { visit }),
-        5 => Request::Abort(EndArgs { visit }),
-        6 => Request::Flush(FlushArgs { page: file[at + 3] }),
+        2 => Request::Change(visit, cell, signed(read16(file, at + 4))),
+        3 => Request::HandOver(visit, Visit(wide(file[at + 2])), cell),
+        4 => Request::Commit(visit),
+        5 => Request::Abort(visit),
+        6 => Request::Flush(file[at + 3]),
         7 => Request::Force,
-        _ => Request::Read(ReadArgs { cell }),
+        _ => Request::Read(cell),
     }
 }
 
-// The fields of 6 bytes are those of a call: a known code, and the fields that it does not use are zero, so that their sum is.
+// The fields of a call's bytes are those of a call: a known code, and the fields that it does not use are zero, so that their sum is.
 fn is_call(code: u8, visit: u8, receiver: u8, cell: u8, change: u16) -> bool
     ensures { λ r. ⌜ r ≡ isCall code visit receiver cell (signedOf 16 change) ⌝ }
 {
@@ -129,9 +116,9 @@ fn is_call(code: u8, visit: u8, receiver: u8, cell: u8, change: u16) -> bool
     }
 }
 
-// The 6 bytes from `at` on are a call.
+// The bytes from `at` on are a call.
 fn is_call_at(file: &[u8], at: usize) -> bool
-    requires { ⌜ at + 6 ≤ length (now file) ⌝ }
+    requires { ⌜ at + callLength ≤ length (now file) ⌝ }
     ensures { λ r. ⌜ r ≡ isCallAt (now (file .entry)) at ⌝ }
 {
     is_call(
@@ -145,7 +132,7 @@ fn is_call_at(file: &[u8], at: usize) -> bool
 
 // n calls stand from `at` on.
 fn are_calls(file: &[u8], at: usize, n: usize) -> bool
-    requires { ⌜ at + 6 * n ≤ length (now file) ⌝ }
+    requires { ⌜ at + callLength * n ≤ length (now file) ⌝ }
     ensures { λ r. ⌜ r ≡ areCalls n (now (file .entry)) at ⌝ }
 {
     let mut here = at;

@@ -12,14 +12,14 @@ use Rattle.book.specs.Limits.{logLength, chartsLength, cellLimit}
 use Rattle.book.specs.Calls.{Typed}
 use Rattle.book.specs.Rows.{isAmount}
 use Rattle.book.specs.Power.{Book, Fuse, formatted}
-use Rattle.book.specs.Book.{Answer, opening}
+use Rattle.book.specs.Book.{opening}
 use Rattle.book.specs.Events.{Event, opens, calls, happens}
 use Rattle.book.specs.LogBytes.{logBytes}
 use Rattle.book.specs.Numbers.{number, signed}
 use Rattle.book.proofs.Sound.{sound-opening, stored-allowed}
 use Rattle.book.proofs.Claims.{grows-open}
 use Rattle.book.proofs.Pages.{Bounded}
-use Rattle.state.specs.World.{World, rightLengths, worldOf, Represents}
+use Rattle.state.specs.World.{World, world, rightLengths, worldOf, Represents}
 use Rattle.state.specs.Contracts.{Answered, byBook, cellsOf, formats, CallPost, OpenPost, FormatPost}
 use Rattle.state.proofs.Lengths.{represented-lengths}
 use Rattle.state.proofs.StoredCharts.{charts-kept}
@@ -28,7 +28,7 @@ use Rattle.state.proofs.Kept.{kept, represents-world}
 use Rattle.state.proofs.FormattedStores.{formatted-store}
 use Rattle.state.specs.declared.ram.State.{State}
 use Rattle.tables_model.specs.declared.Scope.{Scope}
-use Rattle.cores.specs.Lent.{world, blanks}
+use Rattle.cores.specs.Lent.{blanks}
 use Rattle.sessions.proofs.Held.{represents}
 use Rattle.sessions.proofs.Demand.{held-formatted}
 use Rattle.run_reader.specs.File.{callOfCode, callAt}
@@ -38,9 +38,9 @@ small : Bounded 1000000 zeros
 small c = omega arith
 
 -- what an event comes to: the book's answer, and a store that stands for the book after it
-pub record Answers (b : Book) (e : Event) (a : Answer) (leaves : World) : Type 0 where
-  pub answer : a ≡ happens zeros b e .answer
-  pub stands : Represents zeros (happens zeros b e .book) leaves
+pub record Answers (b : Book) (e : Event) (x : Answered) : Type 0 where
+  pub answer : x .answer ≡ happens zeros b e .answer
+  pub stands : Represents zeros (happens zeros b e .book) (x .world)
 
 -- ── A call ────────────────────────────────────────────────────────────────────────────────────────────────────────────
 
@@ -69,12 +69,12 @@ typed-call bs at =
     let x = number 2 bs (at + 4) in
     typed-code (getD bs at 0) (getD bs (at + 1) 0) (getD bs (at + 2) 0) (getD bs (at + 3) 0) (signed 16 x) (amount x)
 
-pub call-answers : (b : Book) (bs : List ℕ) (at : ℕ) (given leaves : World) (a : Answer) → Represents zeros b given
-    → CallPost (callAt bs at) given a leaves → Answers b (calls true (callAt bs at)) a leaves
+pub call-answers : (b : Book) (bs : List ℕ) (at : ℕ) (given : World) (x : Answered) → Represents zeros b given
+    → CallPost (callAt bs at) given x → Answers b (calls true (callAt bs at)) x
 unfolding byBook
-call-answers b bs at given leaves a r post = record {
-  answer = ap (λ (x : Answered). x .answer) (post .is (represented-lengths zeros b given r) zeros b r);
-  stands = kept zeros b (callAt bs at) given leaves a r (typed-call bs at) post;
+call-answers b bs at given x r post = record {
+  answer = ap (λ (y : Answered). y .answer) (post .is (represented-lengths zeros b given r) zeros b r);
+  stands = kept zeros b (callAt bs at) given x r (typed-call bs at) post;
 }
 
 -- ── An opening ────────────────────────────────────────────────────────────────────────────────────────────────────────
@@ -83,17 +83,16 @@ stored-log : (b : Book) (w : World) → Represents zeros b w → w .log ≡ logB
 unfolding worldOf
 stored-log b w r = ap (λ (x : World). x .log) (r .is)
 
-pub open-answers : (b : Book) (f : Fuse) (given leaves : World) (a : Answer) → Represents zeros b given → OpenPost f given a leaves
-    → Answers b (opens true f) a leaves
+pub open-answers : (b : Book) (f : Fuse) (given : World) (x : Answered) → Represents zeros b given → OpenPost f given x → Answers b (opens true f) x
 unfolding opening
-open-answers b f given leaves a r post =
+open-answers b f given x r post =
     let al = stored-allowed b (r .sound) in
     let good = charts-accepted zeros 1000000 small (b .stored) al (omega arith) (given .charts) (r .charts) in
-    let is : record { answer = a; world = leaves } ≡ byOpening zeros (given .charts) (opening b true f) = post .is ∙
+    let is : x ≡ byOpening zeros (given .charts) (opening b true f) = post .is ∙
     opens-book zeros 1000000 small (b .stored) al (omega arith) f given (represented-lengths zeros b given r) (stored-log b given r) (r .charts) good in
     record {
-      answer = ap (λ (x : Answered). x .answer) is;
-      stands = subst (Represents zeros (opening b true f .book)) (sym (ap (λ (x : Answered). x .world) is))
+      answer = ap (λ (y : Answered). y .answer) is;
+      stands = subst (Represents zeros (opening b true f .book)) (sym (ap (λ (y : Answered). y .world) is))
           (represents-world zeros (opening b true f .book) (given .charts) (r .range) (sound-opening b true f (r .sound))
           (charts-kept zeros (b .stored) (opening b true f .book .stored) (given .charts) (grows-open b true f) (r .charts)));
     }
@@ -116,9 +115,9 @@ pub right-lengths : (s : State) (log charts copy : List ℕ) (scopes : List Scop
     → length copy ≡ chartsLength → scopes ≡ blanks → rightLengths (world s log charts copy scopes) ≡ true
 right-lengths s log charts copy scopes l c d e = rw (l, c, d, e)
 
-pub format-stands : (given leaves : World) (a : Answer) → rightLengths given ≡ true → FormatPost zeroCells given a leaves → Represents zeros formatted leaves
-format-stands given leaves a e post =
-    let done : a .number ≡ 0 = ap (λ (r : Answered). r .answer .number) (post .is) ∙ format-done given e in
-    let f = formatted-store zeroCells given leaves a post done in
-    let h = held-formatted zeroCells leaves f in
-    subst (λ (cells : ℕ → ℤ). Represents cells formatted leaves) (λ i c. cells-zero cellLimit c i) (represents (cellsOf zeroCells) formatted leaves (f .small) h)
+pub format-stands : (given : World) (x : Answered) → rightLengths given ≡ true → FormatPost zeroCells given x → Represents zeros formatted (x .world)
+format-stands given x e post =
+    let done : x .answer .number ≡ 0 = ap (λ (r : Answered). r .answer .number) (post .is) ∙ format-done given e in
+    let f = formatted-store zeroCells given x post done in
+    let h = held-formatted zeroCells (x .world) f in
+    subst (λ (cells : ℕ → ℤ). Represents cells formatted (x .world)) (λ i c. cells-zero cellLimit c i) (represents (cellsOf zeroCells) formatted (x .world) (f .small) h)

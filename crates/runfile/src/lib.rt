@@ -1,3 +1,2 @@
 // Run files: the file checked whole, its calls made through the public calls of the store, and their answers as lines.
-mod perform; // a call of the file by the public call that it names
 pub mod run; // the file's sessions from the first line to the last

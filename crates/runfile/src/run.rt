@@ -7,19 +7,15 @@ ghost use lib.ListN.{length};
 ghost use Rattle.book.specs.Power.{Book, formatted};
 ghost use Rattle.book.specs.Limits.{logLength, chartsLength};
 ghost use Rattle.book.specs.Events.{opens as openingOf, calls as callOf};
-ghost use Rattle.state.specs.World.{Represents, allowance};
-ghost use Rattle.cores.specs.Lent.{world};
-ghost use Rattle.answers.specs.Meaning.{answerOf};
-ghost use Rattle.run_reader.specs.File.{callAt, callsFrom, isRunFile, sessionsIn};
+ghost use Rattle.state.specs.Answers.{numberAndValue};
+ghost use Rattle.state.specs.World.{Represents, world, allowance};
+ghost use Rattle.run_reader.specs.File.{callLength, callAt, callsFrom, isRunFile, sessionsIn};
 ghost use Rattle.run_lines.specs.Lines.{line};
 ghost use Rattle.run_lines.specs.Output.{lineLength, outputLength, Written};
 ghost use Rattle.runfile.specs.Runs.{zeros, runLines};
 ghost use Rattle.runfile.specs.Play.{Plays, RunsTo};
-use crate::perform::Ran;
-use crate::perform::perform;
-use crate::perform::start;
-use crate::perform::zeroed;
 use cores::entries::blank;
+use cores::outs::Out;
 use recovery::ram::closed_state;
 use rows::numbers::index;
 use run_lines::line::put_fault_line;
@@ -30,9 +26,14 @@ use run_reader::file::call_at;
 use run_reader::file::calls_at;
 use run_reader::file::fuse_at;
 use run_reader::file::is_run_file;
+use state::answers::number_of;
+use state::answers::value_of;
 use state::ram::Fuse;
-use state::ram::Scope;
 use state::ram::State;
+use store::bridges::call_on;
+use store::bridges::format_on;
+use store::bridges::open_on;
+use tables_model::Scope;
 
 // Room for the lines of any run file.
 pub const OUTPUT_LENGTH: usize = 20480;
@@ -51,15 +52,16 @@ pub enum Output {
 }
 
 // The line of a call's answer.
-fn tell(ran: Ran, out: &mut [u8], at: usize, session: usize, call: usize) -> Point
+fn tell(o: Out, out: &mut [u8], at: usize, session: usize, call: usize) -> Point
     requires { ⌜ (at + lineLength ≤ length (now out)) × (session < 65536) × (call < 65536) ⌝ }
-    ensures { λ r. ⌜ Written (now (out .entry)) at (line session call (answerOf (ran .answer))) (r .at) (now (out .exit))
-        × (r .at ≤ at + lineLength) × (r .state ≡ ran .state) × (r .table ≡ ran .table) ⌝ }
+    ensures { λ r. ⌜ Written (now (out .entry)) at (line session call (numberAndValue (o .result .answer))) (r .at) (now (out .exit))
+        × (r .at ≤ at + lineLength) × (r .state ≡ o .result .state) × (r .table ≡ o .table) ⌝ }
 {
-    let state = ran.state;
-    let table = ran.table;
-    let a = ran.answer;
-    let next = put_line(out, at, session, call, a.number, a.value);
+    let r = o.result;
+    let state = r.state;
+    let table = o.table;
+    let a = r.answer;
+    let next = put_line(out, at, session, call, number_of(a), value_of(a));
     Point {
         state,
         table,
@@ -79,7 +81,7 @@ fn turn(
     session: usize,
     call: usize,
 ) -> Point
-    requires { ⌜ (place + 6 ≤ length (now file)) × (point .at + lineLength ≤ length (now out)) × (session < 65536) × (call < 65536) ⌝ }
+    requires { ⌜ (place + callLength ≤ length (now file)) × (point .at + lineLength ≤ length (now out)) × (session < 65536) × (call < 65536) ⌝ }
     ensures { λ r. ⌜ Plays (callOf true (callAt (now (file .entry)) place) ∷ []) session call
         (world (point .state) (now (log .entry)) (now (charts .entry)) (now (copy .entry)) (point .table))
         (world (r .state) (now (log .exit)) (now (charts .exit)) (now (copy .exit)) (r .table))
@@ -88,8 +90,8 @@ fn turn(
     let state = point.state;
     let table = point.table;
     let request = call_at(file, place);
-    let ran = perform(state, log, charts, copy, table, request);
-    tell(ran, out, point.at, session, call)
+    let o = call_on(state, log, charts, copy, table, request);
+    tell(o, out, point.at, session, call)
 }
 
 // An opening, and its line.
@@ -110,8 +112,8 @@ fn opening(
 {
     let state = point.state;
     let table = point.table;
-    let ran = start(state, log, charts, copy, table, fuse);
-    tell(ran, out, point.at, session, 0)
+    let o = open_on(state, log, charts, copy, table, fuse);
+    tell(o, out, point.at, session, 0)
 }
 
 // The n calls from a place of the file on.
@@ -126,7 +128,7 @@ fn turns(
     out: &mut [u8],
     session: usize,
 ) -> Point
-    requires { ⌜ (place + 6 * n ≤ length (now file)) × (n < 65535) × (point .at + lineLength * n ≤ length (now out)) × (session < 65536) ⌝ }
+    requires { ⌜ (place + callLength * n ≤ length (now file)) × (n < 65535) × (point .at + lineLength * n ≤ length (now out)) × (session < 65536) ⌝ }
     ensures { λ r. ⌜ Plays (map (callOf true) (callsFrom n (now (file .entry)) place)) session 1
         (world (point .state) (now (log .entry)) (now (charts .entry)) (now (copy .entry)) (point .table))
         (world (r .state) (now (log .exit)) (now (charts .exit)) (now (copy .exit)) (r .table))
@@ -164,7 +166,7 @@ fn session(
     out: &mut [u8],
     number: usize,
 ) -> Point
-    requires { ⌜ (place + 6 * n ≤ length (now file)) × (n < 65535) × (point .at + lineLength * (n + 1) ≤ length (now out)) × (number < 65536) ⌝ }
+    requires { ⌜ (place + callLength * n ≤ length (now file)) × (n < 65535) × (point .at + lineLength * (n + 1) ≤ length (now out)) × (number < 65536) ⌝ }
     ensures { λ r. ⌜ Plays (openingOf true (allowance fuse) ∷ map (callOf true) (callsFrom n (now (file .entry)) place)) number 0
         (world (point .state) (now (log .entry)) (now (charts .entry)) (now (copy .entry)) (point .table))
         (world (r .state) (now (log .exit)) (now (charts .exit)) (now (copy .exit)) (r .table))
@@ -208,9 +210,11 @@ fn formatted_at_zeros(log: &mut [u8], charts: &mut [u8], copy: &mut [u8]) -> Poi
 {
     let closed = closed_state();
     let entries = blank();
-    let ran = zeroed(closed, log, charts, copy, entries);
-    let state = ran.state;
-    let table = ran.table;
+    let cells = [0i32; 224];
+    let o = format_on(closed, log, charts, copy, entries, &cells);
+    let r = o.result;
+    let state = r.state;
+    let table = o.table;
     Point {
         state,
         table,

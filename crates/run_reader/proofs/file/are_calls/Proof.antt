@@ -3,13 +3,13 @@ use mathlib.Core.Path.{_≡_, refl, sym, _∙_}
 use Prim.Native.Nat.{_+_, _*_, _≤_}
 use native.Mathlib.Omega.{arith}
 use lib.ListN.{length}
-use Rattle.run_reader.specs.File.{areCalls}
+use Rattle.run_reader.specs.File.{callLength, areCalls}
 use Rattle.run_reader.proofs.Bodies.{calls-step, calls-end}
 use Rattle.run_reader.proofs.file.are_calls.Statement.{statement}
 use Rattle.run_reader.proofs.file.are_calls.Tie as tie
 
 abbrev Inv-loop : tie.InvT-loop
-Inv-loop file at n here₀ left₀ here left = (here + 6 * left ≤ length file) × (areCalls n file at ≡ areCalls left file here)
+Inv-loop file at n here₀ left₀ here left = (here + callLength * left ≤ length file) × (areCalls n file at ≡ areCalls left file here)
 
 abbrev μ-loop : tie.MeasureT-loop
 μ-loop file at n here₀ left₀ here left = left

@@ -42,11 +42,11 @@ shared-slice-read-wide-2 c = search needs
 wide-requires-2 : tie.Need-wide-requires-2
 wide-requires-2 c κs = search needs
 
-add-t25 : tie.Need-add-t25
-add-t25 c = search needs
+add-t21 : tie.Need-add-t21
+add-t21 c = search needs
 
-shared-slice-read-t27 : tie.Need-shared-slice-read-t27
-shared-slice-read-t27 c = search needs
+shared-slice-read-t23 : tie.Need-shared-slice-read-t23
+shared-slice-read-t23 c = search needs
 
 returns : tie.Need-returns
 returns c = let s = c .before .before .before .before .before .before .args in of-code (s .file .now) (s .at) 0 (c .match .keys1)
@@ -114,8 +114,8 @@ call-at-spec =
     add-wide-2
     shared-slice-read-wide-2
     wide-requires-2
-    add-t25
-    shared-slice-read-t27
+    add-t21
+    shared-slice-read-t23
     returns
     returns-2
     returns-3

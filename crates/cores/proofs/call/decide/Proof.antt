@@ -1,0 +1,143 @@
+-- `cores::call::decide` meets its contract. Assumes nothing.
+use Prim.Native.Nat.{ℕ}
+use mathlib.Core.Path.{_≡_, ap, sym, _∙_}
+use lib.ListN.{length}
+use Rattle.book.specs.Book.{Answer}
+use Rattle.tables_model.specs.Entries.{entries}
+use Rattle.state.specs.Answers.{numberAndValue, refusedBy}
+use Rattle.state.specs.Requests.{callOf}
+use Rattle.state.specs.World.{World, world}
+use Rattle.calls_model.specs.Perform.{numberOf, performed}
+use Rattle.calls.proofs.Performing.{Passed, passed}
+use Rattle.cores.proofs.Performing.{right-number, when-refused, when-accepted}
+use borrow.Author.Needs.{needs}
+use Rattle.cores.proofs.call.decide.Statement.{statement}
+use Rattle.cores.proofs.call.decide.Tie as tie
+
+-- what the call is handed
+abbrev given : tie.Start → World
+given s = let x = s .args in world (x .state) (x .log .now) (x .charts .now) (x .copy .now) (x .table)
+
+abbrev number : Answer → ℕ
+number a = a .number
+
+-- the arrays have their places
+long : (s : tie.Start) → length (s .args .table) ≡ 64
+long s = search needs
+
+tail-long : (s : tie.Start) → length (s .args .state .tail) ≡ 1024
+tail-long s = search needs
+
+-- the answer of the checks has the number of every check
+numbered : (c : tie.After-check) → let s = c .before .before .before .before .before .before .before .before .before .before in numberAndValue (c .check .result) ≡ refusedBy (numberOf (given s) (callOf (s .args .request)))
+numbered c =
+    let s = c .before .before .before .before .before .before .before .before .before .before in
+    let x = s .args in
+    rw (c .before .before .before .control-of .ensures, c .before .before .before .before .before .flat-into .ensures) at (c .check .ensures) ∙
+    ap refusedBy (right-number (x .state) (x .log .now) (x .charts .now) (x .copy .now) (x .table) (callOf (x .request)) (s .pre) (long s))
+
+slice-aggregate-flat-into : tie.Need-slice-aggregate-flat-into
+slice-aggregate-flat-into c = search needs
+
+flat-into-requires : tie.Need-flat-into-requires
+flat-into-requires c κs = search needs
+
+control-of-requires : tie.Need-control-of-requires
+control-of-requires c κs = search needs
+
+slice-aggregate-check : tie.Need-slice-aggregate-check
+slice-aggregate-check c = search needs
+
+check-requires : tie.Need-check-requires
+check-requires c κs = search needs
+
+number-of-requires : tie.Need-number-of-requires
+number-of-requires c κs = search needs
+
+refused-requires : tie.Need-refused-requires
+refused-requires c κs = search needs
+
+returns : tie.Need-returns
+unfolding performed
+returns c =
+    let s = c .before .before .before .before .before .before .before .before .before .before .before .before .before in
+    let k = c .before .before .before in
+    rw (c .refused .ensures)
+    (when-refused (given s) (callOf (s .args .request)) _ _ (numbered k) (λ z. c .before .if1 .taken (c .before .before .number-of .ensures ∙ ap number (numbered k) ∙ z)))
+
+slice-aggregate-accept : tie.Need-slice-aggregate-accept
+slice-aggregate-accept c = sym (tail-long (c .before .before .before .before .before .before .before .before .before .before .before .before .before .before .before .before .before))
+
+slice-aggregate-accept-2 : tie.Need-slice-aggregate-accept-2
+slice-aggregate-accept-2 c = search needs
+
+accept-requires : tie.Need-accept-requires
+accept-requires c κs =
+    let s = c .before .before .before .before .before .before .before .before .before .before .before .before .before .before .before .before .before .before in
+    let x = s .args in
+    let flat = c .before .before .before .before .before .before .before .before .before .before .before .before .before .flat-into in
+    let p = passed (c .before .before .before .before .before .before .before .before .before .before .before .control-of .result) (x .state .tables) (entries (flat .last .1 .0)) (callOf (x .request))
+    (sym (ap number (c .before .before .before .before .before .before .before .before .check .ensures)) ∙ sym (c .before .before .before .before .before .before .before .number-of .ensures) ∙ c .before .before .before .before .before .before .if1 .left) in (
+      record {
+        fits = record {
+          sizes = record { log-long = s .pre .log-long; tail-long = tail-long s; few = p .within .few; room = p .within .room };
+          copy-long = s .pre .copy-long;
+        };
+        ready = record { range = p .within .range; long = flat .kept .1 .0 };
+        free = p .free;
+      },
+      s .pre .charts-long,
+    )
+
+new-state-requires : tie.Need-new-state-requires
+new-state-requires c κs = search needs
+
+slice-aggregate-table-from : tie.Need-slice-aggregate-table-from
+slice-aggregate-table-from c = search needs
+
+table-from-requires : tie.Need-table-from-requires
+table-from-requires c κs = search needs
+
+same-length : tie.Need-same-length
+same-length c = search needs
+
+same-length-2 : tie.Need-same-length-2
+same-length-2 c = search needs
+
+same-length-3 : tie.Need-same-length-3
+same-length-3 c = search needs
+
+returns-2 : tie.Need-returns-2
+unfolding performed
+returns-2 c =
+    let s = c .before .before .before .before .before .before .before .before .before .before .before .before .before .before .before .before .before .before .before .before .before .before .before .before .before .before .before .before .before .before in
+    let x = s .args in
+    let a = c .before .before .before .before .before .before .before .before .before .before .before .accept in
+    let k = c .before .before .before .before .before .before .before .before .before .before .before .before .before .before .before .before .before .before .before .before in
+    rw (c .before .before .new-state .ensures, c .table-from .ensures)
+    (rw (c .before .before .before .before .before .before .before .before .before .before .before .before .before .before .before .before .before .before .before .before .before .before .before .control-of .ensures) at (a .ensures) ∙
+    when-accepted (x .state) (x .log .now) (x .charts .now) (x .copy .now) (x .table) _ (callOf (x .request)) _ (c .before .before .before .before .before .before .before .before .before .before .before .before .before .before .before .before .before .before .before .before .before .before .before .before .before .flat-into .ensures)
+    (sym (ap number (numbered k)) ∙ sym (c .before .before .before .before .before .before .before .before .before .before .before .before .before .before .before .before .before .before .before .number-of .ensures) ∙ c .before .before .before .before .before .before .before .before .before .before .before .before .before .before .before .before .before .before .if1 .left))
+
+pub decide-spec : {M : Type 1} → statement M
+decide-spec =
+    tie.close
+    (tie.spec
+    slice-aggregate-flat-into
+    flat-into-requires
+    control-of-requires
+    slice-aggregate-check
+    check-requires
+    number-of-requires
+    refused-requires
+    returns
+    slice-aggregate-accept
+    slice-aggregate-accept-2
+    accept-requires
+    new-state-requires
+    slice-aggregate-table-from
+    table-from-requires
+    same-length
+    same-length-2
+    same-length-3
+    returns-2)
