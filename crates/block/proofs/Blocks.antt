@@ -6,7 +6,7 @@ use native.Mathlib.Omega.{arith}
 use lib.ListN.{length}
 use Rattle.state.specs.declared.ram.State.{State}
 use Rattle.tables_model.specs.declared.Scope.{Scope}
-use Rattle.calls_model.specs.Perform.{world}
+use Rattle.state.specs.World.{world}
 use Rattle.block.specs.Fields.{part, stateIn, allIn, tableIn}
 use Rattle.block.specs.Block.{stateOf, tableOf, copyOf, worldIn, Holds}
 use Rattle.block.proofs.InUse.{in-use-long, all-long}

@@ -65,32 +65,32 @@ of-book cells b charts =
 
 -- ── The contract ──────────────────────────────────────────────────────────────────────────────────────────────────────
 
-abbrev trimResult : Answered → Answered
-trimResult r = record { answer = r .answer; world = trimmed (r .world) }
+abbrev pub trimAnswered : Answered → Answered
+trimAnswered x = record { answer = x .answer; world = trimmed (x .world) }
 
-module _ {k : Call} {w : World} {a : Answer} {v : World} (given : trimmed w ≡ w) (p : CallPost k w a v) where
+module _ {k : Call} {w : World} {x : Answered} (given : trimmed w ≡ w) (p : CallPost k w x) where
   -- nothing changed
-  kept : (n : ℕ) → record { answer = a; world = v } ≡ answered n (pos 0) w → record { answer = a; world = trimmed v } ≡ answered n (pos 0) w
-  kept n e = ap trimResult e ∙ ap (answered n (pos 0)) given
+  kept : (n : ℕ) → x ≡ answered n (pos 0) w → trimAnswered x ≡ answered n (pos 0) w
+  kept n e = ap trimAnswered e ∙ ap (answered n (pos 0)) given
 
-  cut-off : (record { answer = a; world = v } ≡ answered 5 (pos 0) w) ⊎ (record { answer = a; world = v } ≡ answered 5 (pos 0) (cleared (v .log) (w .charts)))
-      → (record { answer = a; world = trimmed v } ≡ answered 5 (pos 0) w) ⊎ (record { answer = a; world = trimmed v } ≡ answered 5 (pos 0) (cleared (v .log) (w .charts)))
+  cut-off : (x ≡ answered 5 (pos 0) w) ⊎ (x ≡ answered 5 (pos 0) (cleared (x .world .log) (w .charts)))
+      → (trimAnswered x ≡ answered 5 (pos 0) w) ⊎ (trimAnswered x ≡ answered 5 (pos 0) (cleared (x .world .log) (w .charts)))
   cut-off (inl e) = inl (kept 5 e)
-  cut-off (inr e) = inr (ap trimResult e ∙ ap (answered 5 (pos 0)) (of-cleared (v .log) (w .charts)))
+  cut-off (inr e) = inr (ap trimAnswered e ∙ ap (answered 5 (pos 0)) (of-cleared (x .world .log) (w .charts)))
 
-  by-book : (cells : ℕ → ℤ) (b : Book) → record { answer = a; world = v } ≡ byBook cells b k w → record { answer = a; world = trimmed v } ≡ byBook cells b k w
+  by-book : (cells : ℕ → ℤ) (b : Book) → x ≡ byBook cells b k w → trimAnswered x ≡ byBook cells b k w
   unfolding byBook
   by-book cells b e =
       let o : Outcome = call cells b true k in
-      ap trimResult e ∙
-      ap (λ (x : World). record { answer = o .answer; world = x }) (of-book cells (o .book) (chartsAfter cells b (ending k) (o .answer .number) (w .charts)))
+      ap trimAnswered e ∙
+      ap (λ (y : World). record { answer = o .answer; world = y }) (of-book cells (o .book) (chartsAfter cells b (ending k) (o .answer .number) (w .charts)))
 
-  pub trim-post : CallPost k w a (trimmed v)
+  pub trim-post : CallPost k w (trimAnswered x)
   trim-post = record {
     table = p .table;
     lengths = λ h. kept 1 (p .lengths h);
     shut = λ h o. kept 5 (p .shut h o);
-    keeps = λ h o. kept (a .number) (p .keeps h o);
+    keeps = λ h o. kept (x .answer .number) (p .keeps h o);
     cut = λ h. cut-off (p .cut h);
     is = λ h cells b r. by-book cells b (p .is h cells b r);
   }

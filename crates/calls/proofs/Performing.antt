@@ -5,7 +5,8 @@ use mathlib.Core.Bool.{Bool, true, false, not, _&&_}
 use mathlib.Core.List.{List, map}
 use lib.IntN.{ℤ, pos}
 use lib.Dec.{leb}
-use borrow.Author.Tests.{leb-true, not-false}
+use borrow.Author.Tests.{leb-true, not-false, eq-eqb}
+use lib.ListN.{length}
 use Rattle.book.specs.Calls.{Call, returns}
 use Rattle.book.specs.Book.{Answer}
 use Rattle.book.specs.Scopes.{Scope as Entry}
@@ -14,16 +15,17 @@ use Rattle.book.proofs.Lists.{and-l, and-r}
 use Rattle.tables_model.specs.declared.Scope.{Scope}
 use Rattle.tables_model.specs.declared.Tables.{Tables}
 use Rattle.tables_model.specs.Visits.{InRange}
+use Rattle.tables_model.specs.Entries.{entries}
 use Rattle.state.specs.declared.ram.Phase.the-variants.{Open, Closed}
 use Rattle.state.specs.declared.ram.State.{State}
 use Rattle.state.specs.Answers.{done, refusedBy}
-use Rattle.state.specs.World.{world, isOpenPhase, cleared}
+use Rattle.state.specs.World.{World, world, isOpenPhase, cleared}
 use Rattle.state.specs.Contracts.{Answered, answered}
 use Rattle.journal.specs.declared.Control.{Control}
 use Rattle.undo.specs.Writing.{rowCount}
-use Rattle.calls_model.specs.Acts.{Core, acted, valueFrom, valueBy}
+use Rattle.calls_model.specs.Acts.{Core, core, acted, valueFrom, valueBy}
 use Rattle.calls_model.specs.Refusals.{refusalBy}
-use Rattle.calls_model.specs.Perform.{isCoherent, structOf, worldIn, settled, numberBy, stateAfter, accepted}
+use Rattle.calls_model.specs.Perform.{isCoherent, entryIn, structOf, controlIn, coreOf, worldIn, settled, decided, numberBy, numberOf, stateAfter, accepted, Lent}
 
 -- ── The counters ──────────────────────────────────────────────────────────────────────────────────────────────────────
 
@@ -75,6 +77,24 @@ module _ (c : Control) (t : Tables) (scopes : List Entry) (k : Call) where
       let inside = isCoherent c t in
       let p = passes (not inside) 4 own (passes (not (isOpenPhase (c .phase))) 4 _ e .1) in
       record { within = coherent c t (not-false inside (p .0)); free = p .1 }
+
+-- the lengths are right: the number of every check is that of the others
+pub right-number : (s : State) (log charts copy : List ℕ) (table : List Scope) (k : Call) → Lent (length log) (length charts) (length copy) → length table ≡ 64
+    → numberBy (controlIn s) (s .tables) (map entryIn table) k ≡ numberOf (world s log charts copy table) k
+unfolding numberOf
+right-number s log charts copy table k lent long =
+    rw (eq-eqb _ _ (lent .log-long), eq-eqb _ _ (lent .charts-long), eq-eqb _ _ (lent .copy-long), eq-eqb _ _ long)
+
+-- a check refuses it
+pub when-refused : (w : World) (k : Call) (a : Answer) (n : ℕ) → a ≡ refusedBy n → (n ≡ 0 → ⊥) → _≡_ {A = Answered} (record { answer = a; world = w }) (decided w k n)
+when-refused w k a zero e h = absurd (h refl)
+when-refused w k a (suc n) e h = rw e
+
+-- none does; the call works on the flat table
+pub when-accepted : (s : State) (log charts copy : List ℕ) (table : List Scope) (flat : List ℕ) (k : Call) (m : ℕ) → entries flat ≡ map entryIn table → m ≡ 0
+    → accepted (core (controlIn s) (s .tables) log charts copy (s .tail) flat) k ≡ decided (world s log charts copy table) k m
+unfolding coreOf
+when-accepted s log charts copy table flat k m e h = rw (h, e)
 
 -- ── After an accepted call ────────────────────────────────────────────────────────────────────────────────────────────
 

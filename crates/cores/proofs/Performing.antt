@@ -54,24 +54,6 @@ not-fit n w k long = go (eqb n 64)
     go true e = rw (eq-eqb _ _ long, e)
     go false e = refl
 
--- the lengths are right: the number of every check is that of the others
-pub right-number : (s : State) (log charts copy : List ℕ) (table : List Scope) (k : Call) → Lent (length log) (length charts) (length copy) → length table ≡ 64
-    → numberBy (controlIn s) (s .tables) (map entryIn table) k ≡ numberOf (world s log charts copy table) k
-unfolding numberOf
-right-number s log charts copy table k lent long =
-    rw (eq-eqb _ _ (lent .log-long), eq-eqb _ _ (lent .charts-long), eq-eqb _ _ (lent .copy-long), eq-eqb _ _ long)
-
--- a check refuses it
-pub when-refused : (w : World) (k : Call) (a : Answer) (n : ℕ) → a ≡ refusedBy n → (n ≡ 0 → ⊥) → _≡_ {A = Answered} (record { answer = a; world = w }) (decided w k n)
-when-refused w k a zero e h = absurd (h refl)
-when-refused w k a (suc n) e h = rw e
-
--- none does; the call works on the flat table
-pub when-accepted : (s : State) (log charts copy : List ℕ) (table : List Scope) (flat : List ℕ) (k : Call) (m : ℕ) → entries flat ≡ map entryIn table → m ≡ 0
-    → accepted (core (controlIn s) (s .tables) log charts copy (s .tail) flat) k ≡ decided (world s log charts copy table) k m
-unfolding coreOf
-when-accepted s log charts copy table flat k m e h = rw (h, e)
-
 -- ── The promise ───────────────────────────────────────────────────────────────────────────────────────────────────────
 
 -- a table of another length is refused by 1

@@ -1,5 +1,5 @@
 -- A call of an open store on the block keeps the contract of the store's call. Assumes nothing.
-use mathlib.Core.Path.{_≡_, refl, sym, _∙_, subst}
+use mathlib.Core.Path.{_≡_, refl, sym, ap, _∙_, subst}
 use mathlib.Core.Logic.{_≢_}
 use mathlib.Core.Bool.{false}
 use mathlib.Core.List.{List, map}
@@ -12,12 +12,13 @@ use Rattle.book.specs.Calls.{Call, Typed}
 use Rattle.book.specs.Book.{Answer, answer}
 use Rattle.tables_model.specs.declared.Tables.{Tables}
 use Rattle.tables_model.specs.Entries.{entries}
-use Rattle.state.specs.World.{World, rightLengths}
+use Rattle.state.specs.Answers.{numberAndValue, refusedBy}
+use Rattle.state.specs.World.{World, world, rightLengths}
 use Rattle.state.specs.Contracts.{Answered, CallPost}
 use Rattle.journal.specs.declared.Control.{Control}
 use Rattle.calls_model.specs.declared.Done.{Done}
 use Rattle.calls_model.specs.Acts.{core}
-use Rattle.calls_model.specs.Perform.{entryIn, structOf, controlIn, world, stateAfter, numberBy, numberOf, performed, accepted, doneOf, Lent}
+use Rattle.calls_model.specs.Perform.{entryIn, structOf, controlIn, stateAfter, numberBy, numberOf, performed, accepted, doneOf, Lent}
 use Rattle.calls_model.proofs.AnyWorld.{wrong-lengths}
 use Rattle.calls_model.proofs.Post.{performed-post}
 use Rattle.calls.proofs.Performing.{right-number, when-refused, when-accepted}
@@ -26,18 +27,18 @@ use Rattle.block.proofs.Parts.{over, part-long}
 use Rattle.block.proofs.Blocks.{table-long, world-held}
 use Rattle.block.proofs.Trimmed.{of-block, trim-post}
 use Rattle.embed.specs.Packed.{answerIn}
-use Rattle.embed.specs.Called.{Called}
+use Rattle.embed.specs.Called.{answeredIn, Called}
 
 -- ── Wrong lengths ─────────────────────────────────────────────────────────────────────────────────────────────────────
 
 -- a block of another length
-pub refused : (Post : World → Answer → World → Type 0) (ram log charts : List ℕ) (r : ℕ) → length ram ≢ 2904 → answerIn r ≡ answer 1 (pos 0)
+pub refused : (Post : World → Answered → Type 0) (ram log charts : List ℕ) (r : ℕ) → length ram ≢ 2904 → answerIn r ≡ answer 1 (pos 0)
     → Called Post ram log charts r ram log charts
 refused Post ram log charts r other e = record { does = λ l. absurd (other l); refuses = λ _. (e, refl, refl, refl) }
 
 -- a block of the right length
-pub called : (Post : World → Answer → World → Type 0) {ram log charts : List ℕ} {r : ℕ} {ram′ log′ charts′ : List ℕ} → length ram ≡ 2904
-    → Post (worldIn ram log charts) (answerIn r) (worldIn ram′ log′ charts′) → Called Post ram log charts r ram′ log′ charts′
+pub called : (Post : World → Answered → Type 0) {ram log charts : List ℕ} {r : ℕ} {ram′ log′ charts′ : List ℕ} → length ram ≡ 2904
+    → Post (worldIn ram log charts) (answeredIn r ram′ log′ charts′) → Called Post ram log charts r ram′ log′ charts′
 called Post long h = record { does = λ _. h; refuses = λ other. absurd (other long) }
 
 -- a log of another length
@@ -50,45 +51,47 @@ pub wrong-charts : (ram log charts : List ℕ) → length log ≡ 65536 → leng
 unfolding worldIn
 wrong-charts ram log charts e other = rw (eq-eqb (length log) 65536 e, ne-eqb (length charts) 1024 other)
 
-pub wrong-post : (k : Call) → Typed k → (w : World) (a : Answer) → a ≡ answer 1 (pos 0) → rightLengths w ≡ false → CallPost k w a w
-wrong-post k typed w a says e =
-    rw says (subst (λ (r : Answered). CallPost k w (r .answer) (r .world)) (wrong-lengths w k e) (performed-post w k typed))
+pub wrong-post : (k : Call) → Typed k → (w : World) (a : Answer) → a ≡ answer 1 (pos 0) → rightLengths w ≡ false → CallPost k w (record { answer = a; world = w })
+wrong-post k typed w a says e = rw says (subst (CallPost k w) (wrong-lengths w k e) (performed-post w k typed))
 
 -- ── Right lengths ─────────────────────────────────────────────────────────────────────────────────────────────────────
 
 module _ (k : Call) (typed : Typed k) (ram log charts : List ℕ) (long : length ram ≡ 2904) (lent : Lent (length log) (length charts) 1024)
     {c : Control} {t : Tables} (flat : List ℕ) (control : c ≡ controlIn (stateOf ram)) (tables : t ≡ stateOf ram .tables)
-    (scopes : entries flat ≡ map entryIn (tableOf ram)) (n : ℕ) (number : n ≡ numberBy c t (entries flat) k) where
+    (scopes : entries flat ≡ map entryIn (tableOf ram)) (a : Answer) (number : a ≡ refusedBy (numberBy c t (entries flat) k)) where
   abbrev given : World
   given = worldIn ram log charts
 
-  numbered : n ≡ numberOf given k
+  numbered : a ≡ refusedBy (numberOf given k)
   unfolding worldIn
   numbered =
       rw (control, tables, scopes) at number ∙
-      right-number (stateOf ram) log charts (copyOf ram) (tableOf ram) k
-      (record { log-long = lent .log-long; charts-long = lent .charts-long; copy-long = part-long 1880 1024 ram (omega arith) }) (table-long ram)
+      ap refusedBy (right-number (stateOf ram) log charts (copyOf ram) (tableOf ram) k
+      (record { log-long = lent .log-long; charts-long = lent .charts-long; copy-long = part-long 1880 1024 ram (omega arith) }) (table-long ram))
+
+  number-is : a .number ≡ numberOf given k
+  number-is = ap (λ (x : Answer). x .number) numbered
 
   -- a check refuses the call
-  pub refused-post : n ≢ 0 → {a : Answer} → a ≡ answer n (pos 0) → CallPost k given a given
+  pub refused-post : a .number ≢ 0 → {r : ℕ} → answerIn r ≡ a → CallPost k given (record { answer = answerIn r; world = given })
   unfolding performed
   refused-post other says =
       rw says
-      (subst (λ (r : Answered). CallPost k given (r .answer) (r .world)) (sym (when-refused given k n (numberOf given k) numbered other)) (performed-post given k typed))
+      (subst (CallPost k given) (sym (when-refused given k a (numberOf given k) numbered (λ z. other (number-is ∙ z)))) (performed-post given k typed))
 
   -- none does
-  module _ (free : n ≡ 0) {tail : List ℕ} (rows : tail ≡ stateOf ram .tail) (d : Done) (log′ charts′ ys tail′ flat′ : List ℕ)
+  module _ (free : a .number ≡ 0) {tail : List ℕ} (rows : tail ≡ stateOf ram .tail) (d : Done) (log′ charts′ ys tail′ flat′ : List ℕ)
       (done : doneOf d log′ charts′ ys tail′ flat′ ≡ accepted (core c t log charts (copyOf ram) tail flat) k) where
     is-performed : doneOf d log′ charts′ ys tail′ flat′ ≡ performed given k
     unfolding performed worldIn
     is-performed =
         rw (control, tables, rows) at done ∙
-        when-accepted (stateOf ram) log charts (copyOf ram) (tableOf ram) flat k (numberOf given k) scopes (sym numbered ∙ free)
+        when-accepted (stateOf ram) log charts (copyOf ram) (tableOf ram) flat k (numberOf given k) scopes (sym number-is ∙ free)
 
-    left : CallPost k given (answer (d .number) (d .value)) (world (stateAfter (d .control) (d .tables) tail′) log′ charts′ ys (map structOf (entries flat′)))
-    left = subst (λ (r : Answered). CallPost k given (r .answer) (r .world)) (sym is-performed) (performed-post given k typed)
+    left : CallPost k given (doneOf d log′ charts′ ys tail′ flat′)
+    left = subst (CallPost k given) (sym is-performed) (performed-post given k typed)
 
     pub accepted-post : length ys ≡ 1024 → {ram′ : List ℕ} → Put (over 1880 1024 ys ram) ram′ (d .control) (d .tables) tail′ flat′
-        → {a : Answer} → a ≡ answer (d .number) (d .value) → CallPost k given a (worldIn ram′ log′ charts′)
+        → {r : ℕ} → answerIn r ≡ numberAndValue (d .answer) → CallPost k given (answeredIn r ram′ log′ charts′)
     accepted-post y {ram′} put says =
         rw (says, world-held ram long ys y ram′ log′ charts′ (stateAfter (d .control) (d .tables) tail′) _ put) (trim-post (of-block ram log charts) left)

@@ -9,27 +9,20 @@ ghost use Rattle.state.specs.Contracts.{CallPost, OpenPost, FormatPost};
 ghost use Rattle.state.specs.World.{allowance};
 ghost use Rattle.embed.specs.Packed.{fuseIn};
 ghost use Rattle.embed.specs.Called.{Called};
-use answers::of_formatted;
-use answers::of_opened;
 use block::COPY;
 use block::LENGTH;
 use block::block::put_cleared;
-use calls_model::Request;
-use cores::opening::format_core;
-use cores::opening::open_core;
 use packed::packed;
-use packed::wrong_length;
+use recovery::format::format;
+use recovery::open::open;
 use recovery::ram::closed_state;
 use rows::Cell;
 use rows::Visit;
 use run::run;
-use state::arguments::ChangeArgs;
-use state::arguments::EndArgs;
-use state::arguments::FlushArgs;
-use state::arguments::HandOverArgs;
-use state::arguments::OpenArgs;
-use state::arguments::ReadArgs;
+use state::answers::Answer;
+use state::answers::number_of;
 use state::ram::Fuse;
+use state::requests::Request;
 
 fn fuse_of(n: u32) -> Fuse
     ensures { λ r. ⌜ allowance r ≡ fuseIn n ⌝ }
@@ -52,19 +45,17 @@ pub extern "C" fn chart_format(
     ensures { λ r. ⌜ Called (FormatPost (now (cells .entry))) (now (ram .entry)) (now (log .entry)) (now (charts .entry)) r (now (ram .exit)) (now (log .exit)) (now (charts .exit)) ⌝ }
 {
     if ram.len() != LENGTH {
-        return wrong_length();
+        return packed(Answer::WrongLength);
     }
     let state = closed_state();
-    let o = format_core(state, log, charts, &mut ram[COPY..LENGTH], 64, cells);
-    let r = o.result;
-    let a = r.answer;
-    let p = of_formatted(a);
-    if p.number != 0 {
-        return packed(p.number, p.value);
+    let o = format(state, cells, log, charts, &mut ram[COPY..LENGTH], 64);
+    let a = o.answer;
+    if number_of(a) != 0 {
+        return packed(a);
     }
-    let s = r.state;
+    let s = o.state;
     put_cleared(ram, s);
-    packed(p.number, p.value)
+    packed(a)
 }
 
 #[no_mangle]
@@ -72,25 +63,21 @@ pub extern "C" fn chart_open(ram: &mut [u8], log: &mut [u8], charts: &mut [u8], 
     ensures { λ r. ⌜ Called (OpenPost (fuseIn fuse)) (now (ram .entry)) (now (log .entry)) (now (charts .entry)) r (now (ram .exit)) (now (log .exit)) (now (charts .exit)) ⌝ }
 {
     if ram.len() != LENGTH {
-        return wrong_length();
+        return packed(Answer::WrongLength);
     }
     if log.len() != 65536 {
-        return wrong_length();
+        return packed(Answer::WrongLength);
     }
     if charts.len() != 1024 {
-        return wrong_length();
+        return packed(Answer::WrongLength);
     }
     let state = closed_state();
-    let args = OpenArgs {
-        fuse: fuse_of(fuse),
-    };
-    let o = open_core(state, log, charts, &mut ram[COPY..LENGTH], 64, args);
-    let r = o.result;
-    let a = r.answer;
-    let p = of_opened(a);
-    let s = r.state;
+    let fuse = fuse_of(fuse);
+    let o = open(state, log, charts, &mut ram[COPY..LENGTH], 64, fuse);
+    let a = o.answer;
+    let s = o.state;
     put_cleared(ram, s);
-    packed(p.number, p.value)
+    packed(a)
 }
 
 #[no_mangle]
@@ -111,12 +98,7 @@ pub extern "C" fn chart_change(
 ) -> u64
     ensures { λ r. ⌜ Called (CallPost (Call.change visit cell amount)) (now (ram .entry)) (now (log .entry)) (now (charts .entry)) r (now (ram .exit)) (now (log .exit)) (now (charts .exit)) ⌝ }
 {
-    let args = ChangeArgs {
-        visit: Visit(visit),
-        cell: Cell(cell),
-        amount: amount,
-    };
-    run(ram, log, charts, Request::Change(args))
+    run(ram, log, charts, Request::Change(Visit(visit), Cell(cell), amount))
 }
 
 #[no_mangle]
@@ -130,32 +112,22 @@ pub extern "C" fn chart_hand_over(
 ) -> u64
     ensures { λ r. ⌜ Called (CallPost (Call.handOver giver receiver cell)) (now (ram .entry)) (now (log .entry)) (now (charts .entry)) r (now (ram .exit)) (now (log .exit)) (now (charts .exit)) ⌝ }
 {
-    let args = HandOverArgs {
-        giver: Visit(giver),
-        receiver: Visit(receiver),
-        cell: Cell(cell),
-    };
-    run(ram, log, charts, Request::HandOver(args))
+    let request = Request::HandOver(Visit(giver), Visit(receiver), Cell(cell));
+    run(ram, log, charts, request)
 }
 
 #[no_mangle]
 pub extern "C" fn chart_commit(ram: &mut [u8], log: &mut [u8], charts: &mut [u8], visit: u16) -> u64
     ensures { λ r. ⌜ Called (CallPost (Call.commit visit)) (now (ram .entry)) (now (log .entry)) (now (charts .entry)) r (now (ram .exit)) (now (log .exit)) (now (charts .exit)) ⌝ }
 {
-    let args = EndArgs {
-        visit: Visit(visit),
-    };
-    run(ram, log, charts, Request::Commit(args))
+    run(ram, log, charts, Request::Commit(Visit(visit)))
 }
 
 #[no_mangle]
 pub extern "C" fn chart_abort(ram: &mut [u8], log: &mut [u8], charts: &mut [u8], visit: u16) -> u64
     ensures { λ r. ⌜ Called (CallPost (Call.abort visit)) (now (ram .entry)) (now (log .entry)) (now (charts .entry)) r (now (ram .exit)) (now (log .exit)) (now (charts .exit)) ⌝ }
 {
-    let args = EndArgs {
-        visit: Visit(visit),
-    };
-    run(ram, log, charts, Request::Abort(args))
+    run(ram, log, charts, Request::Abort(Visit(visit)))
 }
 
 #[no_mangle]
@@ -169,14 +141,12 @@ pub extern "C" fn chart_force(ram: &mut [u8], log: &mut [u8], charts: &mut [u8])
 pub extern "C" fn chart_flush(ram: &mut [u8], log: &mut [u8], charts: &mut [u8], page: u8) -> u64
     ensures { λ r. ⌜ Called (CallPost (Call.flush page)) (now (ram .entry)) (now (log .entry)) (now (charts .entry)) r (now (ram .exit)) (now (log .exit)) (now (charts .exit)) ⌝ }
 {
-    let args = FlushArgs { page: page };
-    run(ram, log, charts, Request::Flush(args))
+    run(ram, log, charts, Request::Flush(page))
 }
 
 #[no_mangle]
 pub extern "C" fn chart_read(ram: &mut [u8], log: &mut [u8], charts: &mut [u8], cell: u8) -> u64
     ensures { λ r. ⌜ Called (CallPost (Call.read cell)) (now (ram .entry)) (now (log .entry)) (now (charts .entry)) r (now (ram .exit)) (now (log .exit)) (now (charts .exit)) ⌝ }
 {
-    let args = ReadArgs { cell: Cell(cell) };
-    run(ram, log, charts, Request::Read(args))
+    run(ram, log, charts, Request::Read(Cell(cell)))
 }

@@ -1,10 +1,13 @@
 // An answer in one number of 64 bits: document 01's refusal number in bits 32 to 39, the value's 32 bits below.
 ghost use mathlib.Core.Path.{_≡_};
 ghost use Prim.Native.Nat.{_<_};
-ghost use lib.IntN.{pos};
 ghost use Rattle.book.specs.Book.{answer};
 ghost use Rattle.book.specs.Numbers.{bitsOf};
+ghost use Rattle.state.specs.Answers.{numberAndValue};
 ghost use Rattle.embed.specs.Packed.{answerIn};
+use state::answers::Answer;
+use state::answers::number_of;
+use state::answers::value_of;
 
 // The 32 bits of a signed number.
 fn bits(z: i32) -> u64
@@ -14,15 +17,14 @@ fn bits(z: i32) -> u64
     up % 4294967296
 }
 
-pub(crate) fn packed(number: u8, value: i32) -> u64
+fn joined(number: u8, value: i32) -> u64
     ensures { λ r. ⌜ answerIn r ≡ answer number value ⌝ }
 {
     4294967296 * (number as u64) + bits(value)
 }
 
-// Refusal 1.
-pub(crate) fn wrong_length() -> u64
-    ensures { λ r. ⌜ answerIn r ≡ answer 1 (pos 0) ⌝ }
+pub(crate) fn packed(a: Answer) -> u64
+    ensures { λ r. ⌜ answerIn r ≡ numberAndValue a ⌝ }
 {
-    4294967296
+    joined(number_of(a), value_of(a))
 }

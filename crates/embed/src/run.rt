@@ -4,14 +4,12 @@ ghost use lib.ListN.{length};
 ghost use Rattle.book.specs.Limits.{chartsLength};
 ghost use Rattle.book.specs.Calls.{Typed};
 ghost use Rattle.state.specs.Contracts.{CallPost};
+ghost use Rattle.state.specs.Requests.{callOf};
 ghost use Rattle.calls_model.specs.Perform.{Lent};
-ghost use Rattle.calls_model.specs.Requests.{callOf};
 ghost use Rattle.block.specs.Fields.{ramLength};
 ghost use Rattle.block.specs.Block.{worldIn};
-ghost use Rattle.embed.specs.Packed.{answerIn};
-ghost use Rattle.embed.specs.Called.{Called};
+ghost use Rattle.embed.specs.Called.{Called, answeredIn};
 use crate::packed::packed;
-use crate::packed::wrong_length;
 use block::COPY;
 use block::LENGTH;
 use block::block::control_in;
@@ -20,22 +18,25 @@ use block::block::put;
 use block::block::tables_in;
 use block::block::tail_in;
 use calls::perform::accept;
-use calls::perform::number_of;
-use calls_model::Request;
+use calls::perform::check;
+use state::answers::Answer;
+use state::answers::number_of;
+use state::requests::Request;
+use state::requests::is_typed;
 
 // Every check but that of the lengths; nothing is written where one of them refuses.
 fn decide(ram: &mut [u8], log: &mut [u8], charts: &mut [u8], request: Request) -> u64
     requires { ⌜ (length (now ram) ≡ ramLength) × Lent (length (now log)) (length (now charts)) chartsLength × Typed (callOf request) ⌝ }
-    ensures { λ r. ⌜ CallPost (callOf request) (worldIn (now (ram .entry)) (now (log .entry)) (now (charts .entry))) (answerIn r) (worldIn (now (ram .exit)) (now (log .exit)) (now (charts .exit))) ⌝ }
+    ensures { λ r. ⌜ CallPost (callOf request) (worldIn (now (ram .entry)) (now (log .entry)) (now (charts .entry))) (answeredIn r (now (ram .exit)) (now (log .exit)) (now (charts .exit))) ⌝ }
 {
     let c = control_in(ram);
     let t = tables_in(ram);
     let used = t.used;
     let mut flat = [0u16; 448];
     flat_in(ram, used, &mut flat);
-    let n = number_of(c, t, &flat, request);
-    if n != 0 {
-        return packed(n, 0);
+    let refusal = check(c, t, &flat, request);
+    if number_of(refusal) != 0 {
+        return packed(refusal);
     }
     let mut tail = tail_in(ram);
     let d = accept(
@@ -51,22 +52,23 @@ fn decide(ram: &mut [u8], log: &mut [u8], charts: &mut [u8], request: Request) -
     let after = d.control;
     let tables = d.tables;
     put(ram, after, tables, &tail, &flat);
-    packed(d.number, d.value)
+    let answer = d.answer;
+    packed(answer)
 }
 
 // The lengths first.
 pub(crate) fn run(ram: &mut [u8], log: &mut [u8], charts: &mut [u8], request: Request) -> u64
-    requires { ⌜ Typed (callOf request) ⌝ }
     ensures { λ r. ⌜ Called (CallPost (callOf request)) (now (ram .entry)) (now (log .entry)) (now (charts .entry)) r (now (ram .exit)) (now (log .exit)) (now (charts .exit)) ⌝ }
 {
+    is_typed(request);
     if ram.len() != LENGTH {
-        return wrong_length();
+        return packed(Answer::WrongLength);
     }
     if log.len() != 65536 {
-        return wrong_length();
+        return packed(Answer::WrongLength);
     }
     if charts.len() != 1024 {
-        return wrong_length();
+        return packed(Answer::WrongLength);
     }
     decide(ram, log, charts, request)
 }
