@@ -30,11 +30,11 @@ use Rattle.state.specs.declared.ram.Fuse.{Fuse}
 use Rattle.state.specs.World.{World, rightLengths, allowance, stateOf, tableOf, cleared}
 use Rattle.state.specs.Contracts.{answered, openedWorld, opens, OpenPost}
 use Rattle.tables_model.specs.Meaning.{indexOf}
-use Rattle.recovery_model.specs.Scan.{Scanned, scanned}
+use Rattle.recovery_model.specs.Scan.{numberOfReason, Scanned, scanned}
 use Rattle.recovery_model.specs.Charts.{badPageBy, redoCharts}
 use Rattle.recovery_model.specs.Backward.{backward}
 use Rattle.recovery_model.specs.Openings.{noIndex, recoveredBy, checkedBy, opensBy}
-use Rattle.recovery_model.proofs.ScanMeans.{scan-good, scan-bad}
+use Rattle.recovery_model.proofs.ScanMeans.{all-good, scan-good, scan-bad}
 use Rattle.recovery_model.proofs.PagesMean.{bad-page-by}
 use Rattle.recovery_model.proofs.RedoMeans.{charts-redone-by}
 use Rattle.recovery_model.proofs.BackwardMeans.{backward-stands}
@@ -64,7 +64,7 @@ module _ (f : Fuse) (charts : List ℕ) (long : length charts ≡ chartsLength) 
         (marked-any charts long bytes rs al few pages) [] ∙
         ap (λ (l : List Row). chartBytes (pageAfter cells l)) (append-nil rs)
 
-    recovered-is : recoveredBy f (logBytes rs) charts (record { rows = length rs; bad = 0; index = indexOf (ledger rs) })
+    recovered-is : recoveredBy f (logBytes rs) charts (all-good rs)
         ≡ openedWorld charts (recovered charts (reopen (allowance f) rs))
     unfolding cells
     recovered-is =
@@ -77,28 +77,25 @@ module _ (f : Fuse) (charts : List ℕ) (long : length charts ≡ chartsLength) 
 
   -- a log of allowed rows
   good-is : (rs : List Row) → allowedLog rs ≡ true
-      → checkedBy f (logBytes rs) charts (record { rows = length rs; bad = 0; index = indexOf (ledger rs) })
-      ≡ openedWorld charts (checked (allowance f) (logBytes rs) charts (good rs))
+      → checkedBy f (logBytes rs) charts (all-good rs) ≡ openedWorld charts (checked (allowance f) (logBytes rs) charts (good rs))
   unfolding stateOf tableOf
   good-is rs al = rw (bad-page-by rs al charts) (go (ltb (badPage rs charts) 32) refl)
     where
-      s : Scanned
-      s = record { rows = length rs; bad = 0; index = indexOf (ledger rs) }
-
       go : (t : Bool) → ltb (badPage rs charts) 32 ≡ t
-          → cond t (answered 4 (pos (badPage rs charts)) (cleared (logBytes rs) charts)) (recoveredBy f (logBytes rs) charts s)
+          → cond t (answered 4 (pos (badPage rs charts)) (cleared (logBytes rs) charts)) (recoveredBy f (logBytes rs) charts (all-good rs))
           ≡ openedWorld charts (cond t (rejected 4 (badPage rs charts) (logBytes rs)) (recovered charts (reopen (allowance f) rs)))
       go true e = refl
       go false e = recovered-is rs al (let k = ltb-false (badPage rs charts) 32 e in omega (arith, first-within 32 0 (λ p. isPage rs p (pageAt charts p))))
 
   -- a log that is refused
-  bad-is : (log : List ℕ) (s : Scanned) (n : ℕ) → s .bad ≡ n → 1 ≤ n → checkedBy f log charts s ≡ openedWorld charts (rejected 3 n log)
+  bad-is : (log : List ℕ) (s : Scanned) (i n : ℕ) → s .bad ≡ n → numberOfReason (s .reason) ≡ i → 1 ≤ n
+      → checkedBy f log charts s ≡ openedWorld charts (rejected i n log)
   unfolding stateOf tableOf
-  bad-is log s n e h =
-      ap (λ (t : Bool). cond (not t) (answered 3 (pos (s .bad)) (cleared log charts))
+  bad-is log s i n e why h =
+      ap (λ (t : Bool). cond (not t) (answered (numberOfReason (s .reason)) (pos (s .bad)) (cleared log charts))
       (cond (ltb (badPageBy log (s .rows) charts) pageLimit) (answered 4 (pos (badPageBy log (s .rows) charts)) (cleared log charts)) (recoveredBy f log charts s)))
       (ne-eqb (s .bad) 0 (λ q. omega arith)) ∙
-      ap (λ (k : ℕ). answered 3 (pos k) (cleared log charts)) e
+      ap₂ (λ (j k : ℕ). answered j (pos k) (cleared log charts)) why e
 
   any-log : (log : List ℕ) → length log ≡ logLength → checkedBy f log charts (scanned log noIndex) ≡ openedWorld charts (openBytes (allowance f) log charts)
   unfolding openBytes Demand2Reading
@@ -108,11 +105,11 @@ module _ (f : Fuse) (charts : List ℕ) (long : length charts ≡ chartsLength) 
       go (good rs) e =
           let k = log-exact log rs h e in
           ap (checkedBy f log charts) (scan-good log rs e) ∙
-          subst (λ (l : List ℕ). checkedBy f l charts (record { rows = length rs; bad = 0; index = indexOf (ledger rs) })
+          subst (λ (l : List ℕ). checkedBy f l charts (all-good rs)
           ≡ openedWorld charts (checked (allowance f) l charts (good rs))) (sym (k .1)) (good-is rs (k .0))
       go (bad i n) e =
-          let k = demand-2-reading log h .refuses i n e in
-          bad-is log (scanned log noIndex) n (scan-bad log i n e) (k .1 .from) ∙ ap (λ (j : ℕ). openedWorld charts (rejected j n log)) (sym (k .0))
+          let k = scan-bad log i n e in
+          bad-is log (scanned log noIndex) i n (k .0) (k .1) (demand-2-reading log h .refuses i n e .1 .from)
 
 pub opens-by : (f : Fuse) (w : World) → AreBytes (w .charts) → opensBy f w ≡ opens (allowance f) w
 unfolding opensBy opens
@@ -127,5 +124,5 @@ opens-by f w bytes = go (rightLengths w) refl
     go false e = refl
 
 -- so what it gives back and leaves is as the contract says
-pub opens-post : (f : Fuse) (w : World) → AreBytes (w .charts) → OpenPost (allowance f) w (opensBy f w .answer) (opensBy f w .world)
+pub opens-post : (f : Fuse) (w : World) → AreBytes (w .charts) → OpenPost (allowance f) w (opensBy f w)
 opens-post f w bytes = record { is = opens-by f w bytes }

@@ -1,8 +1,8 @@
--- The check of a log finds what the row rules say: the rows and their tables, or the first bad row (`scan-good`, `scan-bad`).
+-- The check of a log finds what the row rules say: the rows and their tables, or the first bad row and its number (`scan-good`, `scan-bad`).
 use Prim.Native.Nat.{ℕ, zero, suc, _+_, _-_, _*_, _≤_}
 use native.Mathlib.Omega.{arith}
 use mathlib.Core.Path.{_≡_, refl, ap, sym, _∙_, subst}
-use mathlib.Core.Bool.{Bool, true, false, cond, _&&_}
+use mathlib.Core.Bool.{Bool, true, false, cond, not, _&&_}
 use mathlib.Core.List.{List, [], _∷_, _++_, append-assoc, append-nil}
 use lib.ListN.{length, length-append, getD, take, drop, take-append-drop}
 use lib.Seq.{drop-at, drop-drop, getD-take}
@@ -11,30 +11,31 @@ use borrow.Author.Tests.{eqb-true, eqb-false, ne-eqb}
 use Rattle.book.specs.Limits.{rowLimit}
 use Rattle.book.specs.Rows.{Row, undoneBy, fits}
 use Rattle.book.specs.Ledger.{Ledger, empty, after, ledger}
-use Rattle.book.specs.Rules.{allowedLog}
+use Rattle.book.specs.Rules.{lawful, withinLimits, allowed, allowedLog}
 use Rattle.book.specs.RowBytes.{rowOf, isRowBytes}
 use Rattle.book.specs.Pages.{rowAt}
 use Rattle.book.specs.LogBytes.{rowsBytes, judge, Log, good, bad, consLog, readEnd, readRows, readLog}
-use Rattle.book.proofs.Lists.{and-i, and-l, and-r}
+use Rattle.book.proofs.Lists.{clash, and-i, and-l, and-r}
 use Rattle.book.proofs.Logs.{allowed-append, ledger-append}
 use Rattle.book.proofs.RowBytes.{row-exact}
-use Rattle.book.proofs.LogBytes.{rows-long, allowed-fits, judge-good, judge-exact, judge-three}
+use Rattle.book.proofs.LogBytes.{rows-long, judge-exact}
 use Rattle.rows.specs.declared.Read.the-variants.{Valid, Malformed}
 use Rattle.rows.specs.Meaning.{coded}
 use Rattle.rows.specs.Reading.{readOf, isBlank}
 use Rattle.rows.proofs.Meanings.{meant-coded}
 use Rattle.rows.proofs.RoundTrip.{read-blank, read-zero, read-kind}
-use Rattle.tables_model.specs.declared.Verdict.{Verdict}
 use Rattle.tables_model.specs.declared.Verdict.the-variants.{Allowed, Unlawful, OverLimit}
 use Rattle.tables_model.specs.Visits.{noTables}
 use Rattle.tables_model.specs.Rows.{Index, judgeBy}
 use Rattle.tables_model.specs.Meaning.{indexOf}
-use Rattle.tables_model.proofs.Judge.{judge-allowed, allowed-judge}
+use Rattle.tables_model.proofs.Judge.{judge-by}
 use Rattle.tables_model.proofs.Step.{step-by}
 use Rattle.tables_model.proofs.Simulation.{index-empty}
+use Rattle.recovery_model.specs.declared.Reason.{Reason}
+use Rattle.recovery_model.specs.declared.Reason.the-variants.{Bytes, Rule, Limit}
 use Rattle.recovery_model.specs.declared.Judged.{Judged}
 use Rattle.recovery_model.specs.declared.Judged.the-variants.{Taken, Ends, Bad}
-use Rattle.recovery_model.specs.Scan.{rowIn, Judgement, ruled, judgedRead, judgeRow, Scanned, scanOn, scanFrom, firstSet, scanned}
+use Rattle.recovery_model.specs.Scan.{rowIn, numberOfReason, Judgement, ruled, judgedRead, judgeRow, Scanned, scanOn, scanFrom, firstSet, scanned}
 use Rattle.recovery_model.specs.Openings.{noIndex}
 use Rattle.recovery_model.proofs.LogRows.{next-row, row-in}
 
@@ -50,7 +51,7 @@ next-rest log bs k e = ap (λ (n : ℕ). drop n log) (at k) ∙ sym (drop-drop 1
 -- no row, or the first row with a byte that is not zero
 EndsAt : ℕ → Log → Type 0
 EndsAt n (good rs) = (rs ≡ []) × (n ≡ 0)
-EndsAt n (bad i m) = n ≡ m
+EndsAt n (bad i m) = (n ≡ m) × (numberOfReason Bytes ≡ i)
 
 end-scanned : (m k : ℕ) (log bs : List ℕ) → drop (16 * k) log ≡ bs → EndsAt (firstSet m k log) (readEnd m (suc k) bs)
 unfolding EndsAt firstSet
@@ -60,12 +61,18 @@ end-scanned (suc m) k log bs e = rw e (go (isBlank (take 16 bs)) (end-scanned m 
     go : (t : Bool) → EndsAt (firstSet m (suc k) log) (readEnd m (suc (suc k)) (drop 16 bs))
         → EndsAt (cond t (firstSet m (suc k) log) (suc k)) (cond t (readEnd m (suc (suc k)) (drop 16 bs)) (bad 3 (suc k)))
     go true ih = ih
-    go false ih = refl
+    go false ih = (refl, refl)
 
 -- ── One row ───────────────────────────────────────────────────────────────────────────────────────────────────────────
 
 abbrev judgement : Judged → Index → Judgement
 judgement j x = record { judged = j; index = x }
+
+-- a row is bad for a reason with this number, and the tables are as before it
+record Refused (j : Judgement) (x : Index) (n : ℕ) : Type 0 where
+  why : Reason
+  is : j ≡ judgement (Bad why) x
+  number : numberOfReason why ≡ n
 
 -- the bytes after allowed rows, and the row that comes next
 module _ (rs : List Row) (al : allowedLog rs ≡ true) (log bs : List ℕ) (is : log ≡ rowsBytes 1 rs ++ bs) where
@@ -92,17 +99,16 @@ module _ (rs : List Row) (al : allowedLog rs ≡ true) (log bs : List ℕ) (is :
   row-blank : isBlank (take 16 bs) ≡ true → judgeRow log (length rs) before ≡ judgement Ends before
   row-blank e = read-here ∙ ap (judgedRead log (length rs) before) (read-blank (suc (length rs)) (take 16 bs) e)
 
-  row-zero : getD bs 0 0 ≡ 0 → isBlank (take 16 bs) ≡ false → judgeRow log (length rs) before ≡ judgement Bad before
+  row-zero : getD bs 0 0 ≡ 0 → isBlank (take 16 bs) ≡ false → judgeRow log (length rs) before ≡ judgement (Bad Bytes) before
   row-zero z e = read-here ∙ ap (judgedRead log (length rs) before) (read-zero (suc (length rs)) (take 16 bs) (top ∙ z) e)
 
-  -- the verdict of the tables on it
-  verdict : Verdict
-  verdict = judgeBy before (length rs) (rowIn log (length rs) (undoneBy next)) next
-
-  row-valid : judgedRead log (length rs) before (Valid (coded next)) ≡ ruled log (length rs) before next verdict
-  unfolding verdict
-  row-valid =
-      ap (λ (r : Row). ruled log (length rs) before r (judgeBy before (length rs) (rowIn log (length rs) (undoneBy r)) r)) (meant-coded next)
+  -- a row whose bytes and fields are right is judged by the row rules
+  row-ruled : judgedRead log (length rs) before (Valid (coded next))
+      ≡ ruled log (length rs) before next (cond (lawful (ledger rs) next) (cond (withinLimits (ledger rs) next) Allowed OverLimit) Unlawful)
+  unfolding before
+  row-ruled =
+      ap (λ (r : Row). ruled log (length rs) before r (judgeBy before (length rs) (rowIn log (length rs) (undoneBy r)) r)) (meant-coded next) ∙
+      ap (ruled log (length rs) before next) (judge-by rs al next (rowIn log (length rs) (undoneBy next)) (looks (undoneBy next)))
 
   row-kind : 1 ≤ getD bs 0 0 → judgeRow log (length rs) before
       ≡ judgedRead log (length rs) before (cond (isRowBytes (suc (length rs)) (take 16 bs) && fits next) (Valid (coded next)) Malformed)
@@ -111,57 +117,60 @@ module _ (rs : List Row) (al : allowedLog rs ≡ true) (log bs : List ℕ) (is :
 
   row-taken : 1 ≤ getD bs 0 0 → judge (ledger rs) (suc (length rs)) (take 16 bs) ≡ 0
       → judgeRow log (length rs) before ≡ judgement Taken (indexOf (after (ledger rs) next))
-  unfolding next before verdict
+  unfolding next before allowed
   row-taken h e =
       let k = judge-exact (ledger rs) (suc (length rs)) (take 16 bs) e in
-      let fit = allowed-fits (ledger rs) next (k .1) in
-      let yes = allowed-judge rs al next (rowIn log (length rs) (undoneBy next)) (looks (undoneBy next)) (k .1) in
-      row-kind h ∙ ap (λ (t : Bool). judgedRead log (length rs) before (cond t (Valid (coded next)) Malformed)) (and-i _ _ (k .0) fit) ∙ row-valid ∙
-      ap (ruled log (length rs) before next) yes ∙ ap (judgement Taken) (step-by rs al (rowIn log (length rs)) looks next (k .1))
+      let fit : fits next ≡ true = search (and-l, and-r) in
+      let law : lawful (ledger rs) next ≡ true = search (and-l, and-r) in
+      let within : withinLimits (ledger rs) next ≡ true = search (and-l, and-r) in
+      rw (row-kind h, k .0, fit, row-ruled, law, within) (ap (judgement Taken) (step-by rs al (rowIn log (length rs)) looks next (k .1)))
 
-  row-bad : 1 ≤ getD bs 0 0 → judge (ledger rs) (suc (length rs)) (take 16 bs) ≡ 3 → judgeRow log (length rs) before ≡ judgement Bad before
-  unfolding next before verdict
-  row-bad h e = row-kind h ∙ go (isRowBytes (suc (length rs)) (take 16 bs) && fits next) refl
+  -- what does not pass is bad: by its bytes, then by the rules, then by the limits
+  row-bad : 1 ≤ getD bs 0 0 → eqb (judge (ledger rs) (suc (length rs)) (take 16 bs)) 0 ≡ false
+      → Refused (judgeRow log (length rs) before) before (judge (ledger rs) (suc (length rs)) (take 16 bs))
+  unfolding judge next
+  row-bad h e =
+      rw (row-kind h) (go (isRowBytes (suc (length rs)) (take 16 bs)) (fits next) (lawful (ledger rs) next) (withinLimits (ledger rs) next) row-ruled e)
     where
-      go : (t : Bool) → (isRowBytes (suc (length rs)) (take 16 bs) && fits next) ≡ t
-          → judgedRead log (length rs) before (cond t (Valid (coded next)) Malformed) ≡ judgement Bad before
-      go false q = refl
-      go true q = row-valid ∙ its verdict refl
-        where
-          its : (v : Verdict) → verdict ≡ v → ruled log (length rs) before next v ≡ judgement Bad before
-          its Allowed p =
-              let fit = and-r (isRowBytes (suc (length rs)) (take 16 bs)) _ q in
-              let ok = judge-allowed rs al next (rowIn log (length rs) (undoneBy next)) (looks (undoneBy next)) fit p in
-              let same = row-exact (suc (length rs)) (take 16 bs) (and-l _ (fits next) q) in
-              let zero : judge (ledger rs) (suc (length rs)) (take 16 bs) ≡ 0 =
-              ap (judge (ledger rs) (suc (length rs))) same ∙ judge-good (ledger rs) (suc (length rs)) next ok in
-              absurd (omega arith)
-          its Unlawful p = refl
-          its OverLimit p = refl
+      tested : (s f t u : Bool) → ℕ
+      tested s f t u = cond (not s) 3 (cond (not (f && t)) 3 (cond (not u) 3 0))
+
+      go : (s f t u : Bool)
+          → judgedRead log (length rs) before (Valid (coded next)) ≡ ruled log (length rs) before next (cond t (cond u Allowed OverLimit) Unlawful)
+          → eqb (tested s f t u) 0 ≡ false
+          → Refused (judgedRead log (length rs) before (cond (s && f) (Valid (coded next)) Malformed)) before (tested s f t u)
+      go false f t u valid e = record { why = Bytes; is = refl; number = refl }
+      go true false t u valid e = record { why = Bytes; is = refl; number = refl }
+      go true true false u valid e = record { why = Rule; is = valid; number = refl }
+      go true true true false valid e = record { why = Limit; is = valid; number = refl }
+      go true true true true valid e = clash true refl e
 
 -- ── The rows ──────────────────────────────────────────────────────────────────────────────────────────────────────────
 
 -- what is made of the rows that were found: the bytes after them have to be zero
 abbrev ended : List ℕ → Scanned → Scanned
-ended log s = cond (eqb (s .bad) 0) (record { rows = s .rows; bad = firstSet (rowLimit - s .rows) (s .rows) log; index = s .index }) s
+ended log s = cond (eqb (s .bad) 0) (record { rows = s .rows; bad = firstSet (rowLimit - s .rows) (s .rows) log; reason = Bytes; index = s .index }) s
 
--- the check finds what is read: after these rows others and their tables, or the first bad row
+-- so many rows, none of them bad
+abbrev pub all-good : List Row → Scanned
+all-good rs = record { rows = length rs; bad = 0; reason = Bytes; index = indexOf (ledger rs) }
+
+-- the check finds what is read: after these rows others and their tables, or the first bad row and its number
 Finds : List Row → Scanned → Log → Type 0
-Finds rs s (good more) = s ≡ record { rows = length (rs ++ more); bad = 0; index = indexOf (ledger (rs ++ more)) }
-Finds rs s (bad i n) = s .bad ≡ n
+Finds rs s (good more) = s ≡ all-good (rs ++ more)
+Finds rs s (bad i n) = (s .bad ≡ n) × (numberOfReason (s .reason) ≡ i)
 
 finds-cons : (rs : List Row) (r : Row) (s : Scanned) (x : Log) → Finds (rs ++ (r ∷ [])) s x → Finds rs s (consLog r x)
 unfolding Finds
-finds-cons rs r s (good more) f =
-    f ∙ ap (λ (l : List Row). record { rows = length l; bad = 0; index = indexOf (ledger l) }) (append-assoc rs (r ∷ []) more)
+finds-cons rs r s (good more) f = f ∙ ap all-good (append-assoc rs (r ∷ []) more)
 finds-cons rs r s (bad i n) f = f
 
-ended-bad : (log : List ℕ) (k : ℕ) (x : Index) → ended log (record { rows = k; bad = suc k; index = x }) .bad ≡ suc k
-ended-bad log k x = rw (ne-eqb (suc k) 0 (λ q. omega arith))
+ended-bad : (log : List ℕ) (s : Scanned) → 1 ≤ s .bad → ended log s ≡ s
+ended-bad log s h = rw (ne-eqb (s .bad) 0 (λ q. omega arith))
 
 -- the log ends after these rows
 finds-end : (rs : List Row) (m : ℕ) (log : List ℕ) (x : Log) → length rs + m ≡ rowLimit → EndsAt (firstSet m (length rs) log) x
-    → Finds rs (ended log (record { rows = length rs; bad = 0; index = indexOf (ledger rs) })) x
+    → Finds rs (ended log (all-good rs)) x
 unfolding EndsAt Finds
 finds-end rs m log (good more) h k =
     let left : rowLimit - length rs ≡ m = omega arith in
@@ -194,13 +203,20 @@ scan-finds (suc m) rs al log bs is h =
     rest : Log
     rest = readRows m (suc (suc k)) (after (ledger rs) r) (drop 16 bs)
 
+    -- the row is bad
+    refused : {i : ℕ} → Refused (judgeRow log k x) x i → Finds rs (at (judgeRow log k x)) (bad i (suc k))
+    refused r =
+        let s : Scanned = record { rows = k; bad = suc k; reason = r .why; index = x } in
+        let is : at (judgeRow log k x) ≡ s = ap at (r .is) ∙ ended-bad log s (omega arith) in
+        (ap (λ (s : Scanned). s .bad) is, ap (λ (s : Scanned). numberOfReason (s .reason)) is ∙ r .number)
+
     -- the log ends here
     ends : getD bs 0 0 ≡ 0 → (t : Bool) → isBlank (take 16 bs) ≡ t
         → Finds rs (at (judgeRow log k x)) (cond t (readEnd m (suc (suc k)) (drop 16 bs)) (bad 3 (suc k)))
     ends z true e =
         subst (λ (j : Judgement). Finds rs (at j) (readEnd m (suc (suc k)) (drop 16 bs))) (sym (row-blank rs al log bs is e))
         (finds-end rs (suc m) log (readEnd m (suc (suc k)) (drop 16 bs)) h (rw e at (end-scanned (suc m) k log bs (rest-is rs al log bs is))))
-    ends z false e = ap (λ (j : Judgement). at j .bad) (row-zero rs al log bs is z e) ∙ ended-bad log k x
+    ends z false e = refused (record { why = Bytes; is = row-zero rs al log bs is z e; number = refl })
 
     moved : (n : ℕ) (l : Ledger) → n ≡ suc k → l ≡ after (ledger rs) r
         → Finds done (ended log (scanFrom m n log (indexOf l))) (readRows m (suc n) l (drop 16 bs))
@@ -230,7 +246,7 @@ scan-finds (suc m) rs al log bs is h =
         (finds-cons rs r (at (judgement Taken (indexOf (after (ledger rs) r)))) rest (moved (length done) (ledger done) count after-is (ih good same)))
     go false p false q ih =
         let ne = eqb-false (getD bs 0 0) 0 p in
-        ap (λ (j : Judgement). at j .bad) (row-bad rs al log bs is (omega arith) (judge-three (ledger rs) (suc k) (take 16 bs) q)) ∙ ended-bad log k x
+        refused (row-bad rs al log bs is (omega arith) q)
 
 -- ── The log ───────────────────────────────────────────────────────────────────────────────────────────────────────────
 
@@ -242,11 +258,12 @@ log-finds log = start rowLimit refl noIndex index-empty
     start m e x i = subst (λ (x : Index). Finds [] (ended log (scanFrom m 0 log x)) (readRows m 1 empty log)) i (scan-finds m [] refl log log refl e)
 
 -- a log that is read as some rows: their number, and the tables of their ledger
-pub scan-good : (log : List ℕ) (rs : List Row) → readLog log ≡ good rs → scanned log noIndex ≡ record { rows = length rs; bad = 0; index = indexOf (ledger rs) }
+pub scan-good : (log : List ℕ) (rs : List Row) → readLog log ≡ good rs → scanned log noIndex ≡ all-good rs
 unfolding Finds
 scan-good log rs e = subst (Finds [] (scanned log noIndex)) e (log-finds log)
 
--- a log that is refused: the first bad row
-pub scan-bad : (log : List ℕ) (i n : ℕ) → readLog log ≡ bad i n → scanned log noIndex .bad ≡ n
+-- a log that is refused: the first bad row, and the number of the reason
+pub scan-bad : (log : List ℕ) (i n : ℕ) → readLog log ≡ bad i n
+    → (scanned log noIndex .bad ≡ n) × (numberOfReason (scanned log noIndex .reason) ≡ i)
 unfolding Finds
 scan-bad log i n e = subst (Finds [] (scanned log noIndex)) e (log-finds log)

@@ -29,7 +29,7 @@ use Rattle.book.proofs.OpenBytes.{byTheBook}
 use Rattle.state.specs.World.{fuseOf, scopeOf, stateOf, tableOf}
 use Rattle.state.specs.Contracts.{Answered, answered, openedWorld}
 use Rattle.state.specs.declared.ram.Phase.the-variants.{Open}
-use Rattle.state.specs.declared.ram.Scope as ram
+use Rattle.tables_model.specs.declared.Scope as lent
 use Rattle.tables_model.specs.declared.Tables.{Tables}
 use Rattle.tables_model.specs.Visits.{vacant}
 use Rattle.tables_model.specs.Meaning.{activeOf, tablesOf, scopeTable}
@@ -63,7 +63,7 @@ module _ (l : Ledger) (none : l .active ≡ []) where
 -- ── The answer and the world ──────────────────────────────────────────────────────────────────────────────────────────
 
 -- a ready opening that leaves this book, by what has to be shown of it
-abbrev ready : Book → List ℕ → ℕ → Tables → List ℕ → List ram.Scope → Answered
+abbrev ready : Book → List ℕ → ℕ → Tables → List ℕ → List lent.Scope → Answered
 ready b charts written tables copy scopes = answered 0 (pos written) (record {
   state = record {
     phase = Open;

@@ -26,7 +26,7 @@ judgement r scopes = record { judged = r .judged; index = index (r .tables) scop
 
 -- what the check of a log found, with the flat table after it
 abbrev pub found : LogScan → List ℕ → Scanned
-found s scopes = record { rows = s .rows; bad = s .bad; index = index (s .tables) scopes }
+found s scopes = record { rows = s .rows; bad = s .bad; reason = s .reason; index = index (s .tables) scopes }
 
 -- what the forward and the backward part ask: the lengths, and counters within them
 pub record Recovers (s : LogScan) (log copy scopes : ℕ) : Type 0 where

@@ -15,7 +15,7 @@ use Rattle.tables_model.specs.Visits.{vacant}
 use Rattle.tables_model.specs.Rows.{Index}
 use Rattle.journal.specs.Journal.{Journal}
 use Rattle.undo.specs.Writing.{Ram, rowCount, isRunning}
-use Rattle.recovery_model.specs.Scan.{Scanned, scanned}
+use Rattle.recovery_model.specs.Scan.{numberOfReason, Scanned, scanned}
 use Rattle.recovery_model.specs.Charts.{badPageBy, redoCharts}
 use Rattle.recovery_model.specs.Backward.{backward}
 
@@ -57,7 +57,8 @@ abbrev pub checkedBy : Fuse → List ℕ → List ℕ → Scanned → Answered
 checkedBy f log charts s =
     let p : ℕ = badPageBy log (s .rows) charts in
     let ok : Answered = recoveredBy f log charts s in
-    cond (not (eqb (s .bad) 0)) (answered 3 (pos (s .bad)) (cleared log charts)) (cond (ltb p pageLimit) (answered 4 (pos p) (cleared log charts)) ok)
+    cond (not (eqb (s .bad) 0)) (answered (numberOfReason (s .reason)) (pos (s .bad)) (cleared log charts))
+    (cond (ltb p pageLimit) (answered 4 (pos p) (cleared log charts)) ok)
 
 unfoldable pub opensBy : Fuse → World → Answered
 opensBy f w = cond (rightLengths w) (checkedBy f (w .log) (w .charts) (scanned (w .log) noIndex)) (answered 1 (pos 0) w)
