@@ -8,6 +8,7 @@ use Rattle.rows.specs.Reading.{isBlank}
 use Rattle.tables_model.specs.Visits.{InRange}
 use Rattle.tables_model.specs.Rows.{Index}
 use Rattle.undo.specs.Looking.{rowBytesAt}
+use Rattle.recovery_model.specs.declared.Reason.the-variants.{Bytes}
 use Rattle.recovery_model.specs.declared.Judged.{Judged}
 use Rattle.recovery_model.specs.declared.Judged.the-variants.{Taken, Ends, Bad}
 use Rattle.recovery_model.specs.Scan.{judgeRow, Scanned, scanOn, scanFrom, firstSet, scanned}
@@ -29,7 +30,7 @@ scan-bounded (suc m) k log x h r =
         → Bounded (scanOn d k y (scanFrom m (suc k) log))
     go Taken y i on = on y i
     go Ends y i on = record { rows = omega arith; bad = omega arith; range = i }
-    go Bad y i on = record { rows = omega arith; bad = omega arith; range = i }
+    go (Bad why) y i on = record { rows = omega arith; bad = omega arith; range = i }
 
 set-bounded : (m k : ℕ) (log : List ℕ) → k + m ≤ 4096 → firstSet m k log ≤ 4096
 unfolding firstSet
@@ -50,6 +51,6 @@ scanned-bounded log = go (eqb (s .bad) 0)
     b : Bounded s
     b = scan-bounded 4096 0 log noIndex (omega arith) (record { count = omega arith; used = omega arith })
 
-    go : (t : Bool) → Bounded (cond t (record { rows = s .rows; bad = firstSet (4096 - s .rows) (s .rows) log; index = s .index }) s)
+    go : (t : Bool) → Bounded (cond t (record { rows = s .rows; bad = firstSet (4096 - s .rows) (s .rows) log; reason = Bytes; index = s .index }) s)
     go true = record { rows = b .rows; bad = set-bounded (4096 - s .rows) (s .rows) log (omega (arith, b .rows)); range = b .range }
     go false = b

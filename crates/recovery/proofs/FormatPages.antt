@@ -13,11 +13,8 @@ use Rattle.book.specs.Numbers.{le, bitsOf}
 use Rattle.book.specs.Pages.{pageBytes, chartBytes, pageAfter}
 use Rattle.book.proofs.Blocks.{tabulate-same}
 use Rattle.book.specs.LogBytes.{logBytes}
-use Rattle.book.specs.Opening.{noCopy}
-use Rattle.book.specs.Scopes.{unused}
 use Rattle.charts.specs.Build.{fromCells}
-use Rattle.state.specs.declared.ram.State.{State}
-use Rattle.state.specs.World.{World, rightLengths, scopeOf, closedState, cleared}
+use Rattle.state.specs.World.{World, rightLengths, cleared}
 use Rattle.state.specs.Contracts.{answered, badCell, cellsOf, formats}
 
 -- page p of the values
@@ -45,14 +42,6 @@ charts-same cells =
 pub no-rows : (n : ℕ) (bs : List ℕ) → bs ≡ replicate n 0 → n ≡ 65536 → bs ≡ logBytes []
 unfolding logBytes
 no-rows n bs e h = e ∙ ap (λ (k : ℕ). replicate k 0) h
-
-pub no-cells : (n : ℕ) (bs : List ℕ) → bs ≡ replicate n 0 → n ≡ 1024 → bs ≡ noCopy
-no-cells n bs e h = e ∙ ap (λ (k : ℕ). replicate k 0) h
-
-pub all-cleared : (s : State) (log charts copy newLog newCharts : List ℕ) → s ≡ closedState → log ≡ newLog → charts ≡ newCharts → copy ≡ noCopy
-    → answered 0 (pos 0) (record { state = s; log = log; charts = charts; copy = copy; scopes = replicate 64 (scopeOf unused) })
-    ≡ answered 0 (pos 0) (cleared newLog newCharts)
-all-cleared s log charts copy newLog newCharts e f g h = rw (e, f, g, h)
 
 pub formats-done : (values : List ℤ) (w : World) → rightLengths w ≡ true → length values ≡ 224 → 224 ≤ badCell values
     → formats values w ≡ answered 0 (pos 0) (cleared (logBytes []) (chartBytes (pageAfter (cellsOf values) [])))

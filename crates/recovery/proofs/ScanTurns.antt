@@ -19,6 +19,8 @@ use Rattle.tables_model.specs.Meaning.{beforeUndone}
 use Rattle.tables.proofs.Verdicts.{allowed-takes}
 use Rattle.tables.proofs.Ranges.{step-range}
 use Rattle.undo.specs.Looking.{rowBytesAt}
+use Rattle.recovery_model.specs.declared.Reason.{Reason}
+use Rattle.recovery_model.specs.declared.Reason.the-variants.{Bytes}
 use Rattle.recovery_model.specs.declared.Judged.the-variants.{Taken, Ends, Bad}
 use Rattle.recovery_model.specs.Scan.{rowIn, Judgement, ruled, judgedRead, judgeRow, Scanned, scanFrom, firstSet, scanned}
 
@@ -51,15 +53,15 @@ module _ (k : ℕ) (log : List ℕ) (x : Index) where
     unfolding scanFrom
     taken-turn t = rw (left k h, ← e, t, add-one k)
 
-    pub ends-turn : j .judged ≡ Ends → scanFrom (4096 - k) k log x ≡ record { rows = k; bad = 0; index = j .index }
+    pub ends-turn : j .judged ≡ Ends → scanFrom (4096 - k) k log x ≡ record { rows = k; bad = 0; reason = Bytes; index = j .index }
     unfolding scanFrom
     ends-turn t = rw (left k h, ← e, t)
 
-    pub bad-turn : j .judged ≡ Bad → scanFrom (4096 - k) k log x ≡ record { rows = k; bad = k + 1; index = j .index }
+    pub bad-turn : (why : Reason) → j .judged ≡ Bad why → scanFrom (4096 - k) k log x ≡ record { rows = k; bad = k + 1; reason = why; index = j .index }
     unfolding scanFrom
-    bad-turn t = rw (left k h, ← e, t, add-one k)
+    bad-turn why t = rw (left k h, ← e, t, add-one k)
 
-  pub scan-end : 4096 ≤ k → scanFrom (4096 - k) k log x ≡ record { rows = k; bad = 0; index = x }
+  pub scan-end : 4096 ≤ k → scanFrom (4096 - k) k log x ≡ record { rows = k; bad = 0; reason = Bytes; index = x }
   unfolding scanFrom
   scan-end h = rw (none-left k h)
 
@@ -88,7 +90,7 @@ none-range = record { count = omega arith; used = omega arith }
 
 module _ (log : List ℕ) (x : Index) (s : Scanned) (e : s ≡ scanFrom 4096 0 log x) where
   pub all-rows : s .bad ≡ 0 → (n : ℕ) → n ≡ firstSet (4096 - s .rows) (s .rows) log
-      → record { rows = s .rows; bad = n; index = s .index } ≡ scanned log x
+      → record { rows = s .rows; bad = n; reason = Bytes; index = s .index } ≡ scanned log x
   unfolding scanned
   all-rows z n f = rw (← e, eq-eqb _ _ z, f)
 

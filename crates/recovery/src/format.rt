@@ -1,21 +1,22 @@
 // Format: charts from the values of the cells, an empty log, and a closed store; for whatever it is handed.
 ghost use mathlib.Core.Path.{_≡_};
-ghost use mathlib.Core.Bool.{false};
 ghost use mathlib.Core.List.{List, []};
 ghost use lib.ListN.{length};
 ghost use Rattle.book.specs.Limits.{formatBound};
 ghost use Rattle.book.specs.Numbers.{within};
 ghost use Rattle.book.specs.Pages.{chartBytes, pageAfter};
-ghost use Rattle.state.specs.declared.ram.Scope.{Scope};
+ghost use Rattle.tables_model.specs.declared.Scope.{Scope};
+ghost use Rattle.state.specs.World.{world};
 ghost use Rattle.state.specs.Contracts.{badCell, cellsOf, formats};
-ghost use Rattle.recovery_model.specs.Answering.{formatted, world};
-use crate::ram::closed_state;
+ghost use Rattle.recovery_model.specs.Answering.{leaves};
+use crate::ram::closed_by;
+use crate::ram::refused;
 use charts::page::build_page;
 use journal::lengths::lengths_fit;
 use journal::writes::clear;
-use recovery_model::FormatOut;
+use recovery_model::Outcome;
 use rows::Cell;
-use state::answers::Formatted;
+use state::answers::Answer;
 use state::ram::State;
 
 // A number of grams within ±1,000,000.
@@ -58,17 +59,6 @@ fn build_charts(charts: &mut [u8], cells: &[i32])
     }
 }
 
-// A refusal changes nothing.
-fn refused(state: State, answer: Formatted) -> FormatOut
-    ensures { λ r. ⌜ r ≡ record { state = state; answer = answer; clears = false } ⌝ }
-{
-    FormatOut {
-        state: state,
-        answer: answer,
-        clears: false,
-    }
-}
-
 // `scopes` is the length of the lent scope table.
 pub fn format(
     state: State,
@@ -77,28 +67,22 @@ pub fn format(
     charts: &mut [u8],
     copy: &mut [u8],
     scopes: usize,
-) -> FormatOut
+) -> Outcome
     ensures { λ r. ⌜ ((table : List Scope) → length table ≡ scopes
-        → formatted r (now (log .exit)) (now (charts .exit)) (now (copy .exit)) table
+        → leaves r (now (log .exit)) (now (charts .exit)) (now (copy .exit)) table
         ≡ formats (now (cells .entry)) (world state (now (log .entry)) (now (charts .entry)) (now (copy .entry)) table)) ⌝ }
 {
     if !lengths_fit(log.len(), charts.len(), copy.len(), scopes) {
-        return refused(state, Formatted::WrongLength);
+        return refused(state, Answer::WrongLength);
     }
     if cells.len() != 224 {
-        return refused(state, Formatted::WrongLength);
+        return refused(state, Answer::WrongLength);
     }
     let c = bad_cell(cells);
     if c < 224 {
-        return refused(state, Formatted::OutOfRange(Cell(c as u8)));
+        return refused(state, Answer::CellOutOfRange(Cell(c as u8)));
     }
     build_charts(charts, cells);
     clear(log);
-    clear(copy);
-    let closed = closed_state();
-    FormatOut {
-        state: closed,
-        answer: Formatted::Done,
-        clears: true,
-    }
+    closed_by(copy, Answer::Done)
 }

@@ -1,46 +1,35 @@
 // An opening from its checks to what it gives back and leaves; for whatever it is handed.
 ghost use mathlib.Core.Path.{_≡_};
-ghost use mathlib.Core.Bool.{true};
 ghost use mathlib.Core.List.{List};
 ghost use Prim.Native.Nat.{ℕ, _+_, _-_, _≤_};
 ghost use lib.ListN.{length};
-ghost use Rattle.book.specs.Opening.{noCopy};
-ghost use Rattle.state.specs.declared.ram.Scope.{Scope};
-ghost use Rattle.state.specs.World.{closedState};
+ghost use lib.IntN.{pos};
+ghost use Rattle.book.specs.Book.{answer};
+ghost use Rattle.tables_model.specs.declared.Scope.{Scope};
+ghost use Rattle.state.specs.World.{world};
+ghost use Rattle.state.specs.Answers.{numberAndValue};
 ghost use Rattle.undo.specs.Writing.{ram};
 ghost use Rattle.recovery_model.specs.Checking.{Recovers, found};
-ghost use Rattle.recovery_model.specs.Answering.{opened, world};
+ghost use Rattle.recovery_model.specs.Answering.{leaves};
+ghost use Rattle.recovery_model.specs.Scan.{numberOfReason};
 ghost use Rattle.recovery_model.specs.Openings.{settledOpening, recoveredBy, checkedBy, opensBy};
 use crate::backward::backward;
 use crate::pages::bad_page;
 use crate::pages::redo;
-use crate::ram::closed_state;
+use crate::ram::closed_by;
 use crate::ram::opened_state;
+use crate::ram::refused;
 use crate::scan::scan_log;
 use journal::Control;
 use journal::lengths::lengths_fit;
-use journal::writes::clear;
 use recovery_model::LogScan;
-use recovery_model::OpenOut;
+use recovery_model::Outcome;
+use recovery_model::Reason;
 use rows::Lsn;
-use state::answers::Opened;
+use state::answers::Answer;
 use state::ram::Fuse;
 use state::ram::Phase;
 use state::ram::State;
-
-// The store is closed, and the copy cleared.
-fn closed_by(copy: &mut [u8], answer: Opened) -> OpenOut
-    requires { ⌜ length (now copy) ≡ 1024 ⌝ }
-    ensures { λ r. ⌜ (r ≡ record { state = closedState; answer = answer; clears = true }) × (now (copy .exit) ≡ noCopy) ⌝ }
-{
-    clear(copy);
-    let state = closed_state();
-    OpenOut {
-        state: state,
-        answer: answer,
-        clears: true,
-    }
-}
 
 // The rows that an opening wrote after the first `rows`.
 fn rows_written(c: Control, rows: usize) -> u16
@@ -52,24 +41,24 @@ fn rows_written(c: Control, rows: usize) -> u16
 }
 
 // Ready, or the power failed on the way.
-fn settle(c: Control, rows: usize, begun: u16, tail: [u8; 1024], copy: &mut [u8]) -> OpenOut
+fn settle(c: Control, rows: usize, begun: u16, tail: [u8; 1024], copy: &mut [u8]) -> Outcome
     requires { ⌜ c .stored + c .waiting ≤ 4096 ⌝ }
     requires { ⌜ length (now copy) ≡ 1024 ⌝ }
-    ensures { λ r. ⌜ ((log charts : List ℕ) (table : List Scope) → opened r log charts (now (copy .exit)) table
+    ensures { λ r. ⌜ ((log charts : List ℕ) (table : List Scope) → leaves r log charts (now (copy .exit)) table
         ≡ settledOpening rows begun (ram c log tail (now (copy .entry))) charts) ⌝ }
 {
     let phase = c.phase;
     match phase {
         Phase::Closed => {
-            return closed_by(copy, Opened::PowerFailed);
+            return closed_by(copy, Answer::Closed);
         }
         Phase::Open => {}
     }
     let n = rows_written(c, rows);
     let state = opened_state(c, begun, tail);
-    OpenOut {
+    Outcome {
         state: state,
-        answer: Opened::Ready(n),
+        answer: Answer::Wrote(n),
         clears: true,
     }
 }
@@ -82,10 +71,10 @@ fn recover(
     charts: &[u8],
     copy: &mut [u8],
     scopes: &mut [u16],
-) -> OpenOut
+) -> Outcome
     requires { ⌜ Recovers s (length (now log)) (length (now copy)) (length (now scopes)) ⌝ }
     requires { ⌜ length (now charts) ≡ 1024 ⌝ }
-    ensures { λ r. ⌜ ((table : List Scope) → opened r (now (log .exit)) (now (charts .entry)) (now (copy .exit)) table
+    ensures { λ r. ⌜ ((table : List Scope) → leaves r (now (log .exit)) (now (charts .entry)) (now (copy .exit)) table
         ≡ recoveredBy fuse (now (log .entry)) (now (charts .entry)) (found s (now (scopes .entry)))) ⌝ }
 {
     let rows = s.rows;
@@ -98,6 +87,17 @@ fn recover(
     settle(c, rows, begun, tail, copy)
 }
 
+// What is answered of a bad row.
+fn bad_row(reason: Reason, row: Lsn) -> Answer
+    ensures { λ r. ⌜ numberAndValue r ≡ answer (numberOfReason reason) (pos (row .0)) ⌝ }
+{
+    match reason {
+        Reason::Bytes => Answer::BadRow(row),
+        Reason::Rule => Answer::BadRow(row),
+        Reason::Limit => Answer::BadRow(row),
+    }
+}
+
 // A bad row or a bad page closes the store and leaves log and charts as they are.
 fn open_scanned(
     fuse: Fuse,
@@ -106,19 +106,20 @@ fn open_scanned(
     charts: &[u8],
     copy: &mut [u8],
     scopes: &mut [u16],
-) -> OpenOut
+) -> Outcome
     requires { ⌜ Recovers s (length (now log)) (length (now copy)) (length (now scopes)) ⌝ }
     requires { ⌜ (s .bad ≤ 4096) × (length (now charts) ≡ 1024) ⌝ }
-    ensures { λ r. ⌜ ((table : List Scope) → opened r (now (log .exit)) (now (charts .entry)) (now (copy .exit)) table
+    ensures { λ r. ⌜ ((table : List Scope) → leaves r (now (log .exit)) (now (charts .entry)) (now (copy .exit)) table
         ≡ checkedBy fuse (now (log .entry)) (now (charts .entry)) (found s (now (scopes .entry)))) ⌝ }
 {
     let bad = s.bad;
+    let reason = s.reason;
     if bad != 0 {
-        return closed_by(copy, Opened::BadRow(Lsn(bad as u16)));
+        return closed_by(copy, bad_row(reason, Lsn(bad as u16)));
     }
     let p = bad_page(log, s.rows, charts);
     if p < 32 {
-        return closed_by(copy, Opened::BadPage(p as u8));
+        return closed_by(copy, Answer::BadPage(p as u8));
     }
     recover(fuse, s, log, charts, copy, scopes)
 }
@@ -131,17 +132,13 @@ pub fn open(
     copy: &mut [u8],
     scopes: usize,
     fuse: Fuse,
-) -> OpenOut
+) -> Outcome
     ensures { λ r. ⌜ ((table : List Scope) → length table ≡ scopes
-        → opened r (now (log .exit)) (now (charts .entry)) (now (copy .exit)) table
+        → leaves r (now (log .exit)) (now (charts .entry)) (now (copy .exit)) table
         ≡ opensBy fuse (world state (now (log .entry)) (now (charts .entry)) (now (copy .entry)) table)) ⌝ }
 {
     if !lengths_fit(log.len(), charts.len(), copy.len(), scopes) {
-        return OpenOut {
-            state: state,
-            answer: Opened::WrongLength,
-            clears: false,
-        };
+        return refused(state, Answer::WrongLength);
     }
     let mut flat = [0; 448];
     let s = scan_log(log, &mut flat);

@@ -1,9 +1,15 @@
-// The states that a format and an opening leave.
+// What a format and an opening give back: the states that they leave, and their refusals.
 ghost use mathlib.Core.Path.{_≡_};
+ghost use mathlib.Core.Bool.{true, false};
+ghost use lib.ListN.{length};
+ghost use Rattle.book.specs.Opening.{noCopy};
 ghost use Rattle.state.specs.World.{closedState};
 ghost use Rattle.recovery_model.specs.Answering.{openedState};
 use journal::Control;
+use journal::writes::clear;
+use recovery_model::Outcome;
 use rows::Visit;
+use state::answers::Answer;
 use state::ram::Fuse;
 use state::ram::Phase;
 use state::ram::State;
@@ -24,6 +30,31 @@ pub fn closed_state() -> State
         waiting: 0,
         tables: tables,
         tail: tail,
+    }
+}
+
+// Nothing is changed.
+pub fn refused(state: State, answer: Answer) -> Outcome
+    ensures { λ r. ⌜ r ≡ record { state = state; answer = answer; clears = false } ⌝ }
+{
+    Outcome {
+        state: state,
+        answer: answer,
+        clears: false,
+    }
+}
+
+// The store is closed, and the copy cleared.
+pub fn closed_by(copy: &mut [u8], answer: Answer) -> Outcome
+    requires { ⌜ length (now copy) ≡ 1024 ⌝ }
+    ensures { λ r. ⌜ (r ≡ record { state = closedState; answer = answer; clears = true }) × (now (copy .exit) ≡ noCopy) ⌝ }
+{
+    clear(copy);
+    let state = closed_state();
+    Outcome {
+        state: state,
+        answer: answer,
+        clears: true,
     }
 }
 

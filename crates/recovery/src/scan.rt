@@ -13,6 +13,7 @@ use crate::look::named_by;
 use recovery_model::Judged;
 use recovery_model::JudgedRow;
 use recovery_model::LogScan;
+use recovery_model::Reason;
 use rows::Lsn;
 use rows::Read;
 use rows::Row;
@@ -44,11 +45,11 @@ fn take_row(log: &[u8], k: usize, t: Tables, scopes: &mut [u16], row: Row) -> Ju
             }
         }
         Verdict::Unlawful => JudgedRow {
-            judged: Judged::Bad,
+            judged: Judged::Bad(Reason::Rule),
             tables: t,
         },
         Verdict::OverLimit => JudgedRow {
-            judged: Judged::Bad,
+            judged: Judged::Bad(Reason::Limit),
             tables: t,
         },
     }
@@ -70,7 +71,7 @@ fn judge_row(log: &[u8], k: usize, t: Tables, scopes: &mut [u16]) -> JudgedRow
             tables: t,
         },
         Read::Malformed => JudgedRow {
-            judged: Judged::Bad,
+            judged: Judged::Bad(Reason::Bytes),
             tables: t,
         },
     }
@@ -97,13 +98,15 @@ fn scan_rows(log: &[u8], first: Tables, scopes: &mut [u16]) -> LogScan
                 return LogScan {
                     rows: k,
                     bad: 0,
+                    reason: Reason::Bytes,
                     tables: next,
                 };
             }
-            Judged::Bad => {
+            Judged::Bad(reason) => {
                 return LogScan {
                     rows: k,
                     bad: k + 1,
+                    reason: reason,
                     tables: next,
                 };
             }
@@ -112,6 +115,7 @@ fn scan_rows(log: &[u8], first: Tables, scopes: &mut [u16]) -> LogScan
     LogScan {
         rows: k,
         bad: 0,
+        reason: Reason::Bytes,
         tables: t,
     }
 }
@@ -148,6 +152,7 @@ pub fn scan_log(log: &[u8], scopes: &mut [u16]) -> LogScan
         return LogScan {
             rows: s.rows,
             bad: bad,
+            reason: Reason::Bytes,
             tables: t,
         };
     }

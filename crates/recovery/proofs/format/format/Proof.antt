@@ -5,7 +5,7 @@ use borrow.Author.Tests.{not-true, not-false, eq-eqb, ne-eqb, lt-ltb}
 use borrow.Author.Needs.{needs}
 use Rattle.state.specs.Contracts.{formats}
 use Rattle.recovery.proofs.Sizes.{Lengths, lengths-are}
-use Rattle.recovery.proofs.FormatPages.{no-rows, no-cells, all-cleared, formats-done}
+use Rattle.recovery.proofs.FormatPages.{no-rows, formats-done}
 use Rattle.recovery.proofs.format.format.Statement.{statement}
 use Rattle.recovery.proofs.format.format.Tie as tie
 
@@ -33,8 +33,8 @@ returns-2 c =
 bad-cell-requires : tie.Need-bad-cell-requires
 bad-cell-requires c κs = search needs
 
-cast-t16 : tie.Need-cast-t16
-cast-t16 c = search needs
+cast-t15 : tie.Need-cast-t15
+cast-t15 c = search needs
 
 refused-requires-3 : tie.Need-refused-requires-3
 refused-requires-3 c κs = search needs
@@ -66,11 +66,8 @@ build-charts-requires c κs = (lengths (c .before .before .before .before) .char
 clear-requires : tie.Need-clear-requires
 clear-requires c κs = search needs
 
-clear-requires-2 : tie.Need-clear-requires-2
-clear-requires-2 c κs = search needs
-
-closed-state-requires : tie.Need-closed-state-requires
-closed-state-requires c κs = search needs
+closed-by-requires : tie.Need-closed-by-requires
+closed-by-requires c κs = lengths (c .before .before .before .before .before .before .before .before .before .before .before .before) .copy
 
 same-length : tie.Need-same-length
 same-length c = search needs
@@ -83,25 +80,21 @@ same-length-3 c = search needs
 
 returns-4 : tie.Need-returns-4
 returns-4 c =
-    let second = c .before .before .before in
-    let first = second .before .before .before .before in
-    let built = first .before .before .before .before in
+    let closed = c .before .before in
+    let cut = closed .before .before .before .before in
+    let built = cut .before .before .before .before in
     let passed = built .before .before in
     let counted = passed .before .before in
     let long = counted .before in
     let f = long .before .lengths-fit in
     let l = lengths long in
     λ table h.
-    all-cleared _ _ _ _ _ _
-    (c .closed-state .ensures)
-    (no-rows _ _ (first .clear .ensures) (l .log))
-    (built .build-charts .ensures)
-    (no-cells _ _ (second .clear2 .ensures) (l .copy)) ∙
-    sym
+    rw (closed .closed-by .ensures .0, closed .closed-by .ensures .1, no-rows _ _ (cut .clear .ensures) (l .log), built .build-charts .ensures)
+    (sym
     (formats-done _ _
     (rw h (sym (f .ensures) ∙ not-false (f .result) (long .if1 .left)))
     (counted .if2 .left)
-    (rw (← (passed .before .bad-cell .ensures)) (passed .if3 .left)))
+    (rw (← (passed .before .bad-cell .ensures)) (passed .if3 .left))))
 
 pub format-spec : {M : Type 1} → statement M
 format-spec =
@@ -113,13 +106,12 @@ format-spec =
     refused-requires-2
     returns-2
     bad-cell-requires
-    cast-t16
+    cast-t15
     refused-requires-3
     returns-3
     build-charts-requires
     clear-requires
-    clear-requires-2
-    closed-state-requires
+    closed-by-requires
     same-length
     same-length-2
     same-length-3

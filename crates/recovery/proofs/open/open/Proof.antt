@@ -13,9 +13,14 @@ use Rattle.recovery.proofs.open.open.Tie as tie
 lengths-fit-requires : tie.Need-lengths-fit-requires
 lengths-fit-requires c κs = search needs
 
+refused-requires : tie.Need-refused-requires
+refused-requires c κs = search needs
+
 returns : tie.Need-returns
 unfolding opensBy
-returns c = λ table h. rw (h, ← (c .before .lengths-fit .ensures), not-true (c .before .lengths-fit .result) (c .if1 .taken))
+returns c =
+    let f = c .before .before .lengths-fit in
+    λ table h. rw (h, c .refused .ensures, ← (f .ensures), not-true (f .result) (c .before .if1 .taken))
 
 slice-aggregate-scan-log : tie.Need-slice-aggregate-scan-log
 slice-aggregate-scan-log c = search needs
@@ -58,6 +63,7 @@ open-spec =
     tie.close
     (tie.spec
     lengths-fit-requires
+    refused-requires
     returns
     slice-aggregate-scan-log
     scan-log-requires

@@ -59,20 +59,21 @@ returns c =
     let l = c .before .before .before .before .before .before .before .before .loop in
     sym (l .inv .3 ∙ ends-turn _ _ _ _ (omega arith) (c .before .before .before .before .before .judge-row .ensures) (c .enum-told2 .given .1))
 
-enum-told-3 : tie.Need-enum-told-3 Inv-loop μ-loop
-enum-told-3 c = search needs
+enum-known-judged : tie.Need-enum-known-judged Inv-loop μ-loop
+enum-known-judged c = search needs
 
-add-t12 : tie.Need-add-t12 Inv-loop μ-loop
-add-t12 c = omega arith
+add-t14 : tie.Need-add-t14 Inv-loop μ-loop
+add-t14 c = omega arith
 
 same-length-2 : tie.Need-same-length-2 Inv-loop μ-loop
 same-length-2 c =
-    c .before .before .before .before .before .judge-row .kept .1 .1 .1 .0 ∙ c .before .before .before .before .before .before .before .before .loop .inv .1
+    let j = c .before .before .before .before .before .before in
+    j .judge-row .kept .1 .1 .1 .0 ∙ j .before .before .before .loop .inv .1
 
 returns-2 : tie.Need-returns-2 Inv-loop μ-loop
 returns-2 c =
-    let l = c .before .before .before .before .before .before .before .before .loop in
-    sym (l .inv .3 ∙ bad-turn _ _ _ _ (omega arith) (c .before .before .before .before .before .judge-row .ensures) (c .enum-told3 .given .1))
+    let j = c .before .before .before .before .before .before in
+    sym (j .before .before .before .loop .inv .3 ∙ bad-turn _ _ _ _ (omega arith) (j .judge-row .ensures) _ (c .before .judged .given .1))
 
 same-length-3 : tie.Need-same-length-3 Inv-loop μ-loop
 same-length-3 c = c .before .loop .inv .1
@@ -95,8 +96,8 @@ scan-rows-spec =
     enum-told-2
     same-length
     returns
-    enum-told-3
-    add-t12
+    enum-known-judged
+    add-t14
     same-length-2
     returns-2
     same-length-3

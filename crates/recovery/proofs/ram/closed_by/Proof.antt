@@ -1,8 +1,8 @@
--- `recovery::open::closed_by` meets its contract. Assumes nothing.
+-- `recovery::ram::closed_by` meets its contract. Assumes nothing.
 use mathlib.Core.Path.{_∙_}
 use borrow.Author.Needs.{needs}
-use Rattle.recovery.proofs.open.closed_by.Statement.{statement}
-use Rattle.recovery.proofs.open.closed_by.Tie as tie
+use Rattle.recovery.proofs.ram.closed_by.Statement.{statement}
+use Rattle.recovery.proofs.ram.closed_by.Tie as tie
 
 clear-requires : tie.Need-clear-requires
 clear-requires c κs = search needs
