@@ -34,7 +34,7 @@ pub fn closed_state() -> State
 }
 
 // Nothing is changed.
-pub fn refused(state: State, answer: Answer) -> Outcome
+pub(crate) fn refused(state: State, answer: Answer) -> Outcome
     ensures { λ r. ⌜ r ≡ record { state = state; answer = answer; clears = false } ⌝ }
 {
     Outcome {
@@ -45,7 +45,7 @@ pub fn refused(state: State, answer: Answer) -> Outcome
 }
 
 // The store is closed, and the copy cleared.
-pub fn closed_by(copy: &mut [u8], answer: Answer) -> Outcome
+pub(crate) fn closed_by(copy: &mut [u8], answer: Answer) -> Outcome
     requires { ⌜ length (now copy) ≡ 1024 ⌝ }
     ensures { λ r. ⌜ (r ≡ record { state = closedState; answer = answer; clears = true }) × (now (copy .exit) ≡ noCopy) ⌝ }
 {

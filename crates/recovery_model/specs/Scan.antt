@@ -49,7 +49,7 @@ judgedRead log k x (Valid row) = let r : book.Row = meant row in ruled log k x r
 unfoldable pub judgeRow : List ℕ → ℕ → Index → Judgement
 judgeRow log k x = judgedRead log k x (readOf (suc k) (rowBytesAt log k))
 
--- what the check of a log found: so many rows, the tables after them, and the first bad row with the reason; 0 for none, of which any reason will do
+-- what the check of a log found: so many rows, the tables after them, and the first bad row with the reason; 0 for none, and the reason then says nothing
 pub record Scanned : Type 0 where
   pub rows : ℕ
   pub bad : ℕ

@@ -25,8 +25,8 @@ pub struct JudgedRow {
     pub tables: Tables,
 }
 
-// What the check of a log found: so many rows, the first bad row, 0 for none, the reason, which says nothing where no row is bad, and the visits after
-// the rows.
+// What the check of a log found: so many rows, the first bad row with the reason, and the visits after the rows. The bad row is 0 for none, and the
+// reason then says nothing.
 pub struct LogScan {
     pub rows: usize,
     pub bad: usize,
