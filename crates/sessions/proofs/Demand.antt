@@ -51,22 +51,22 @@ module _ (cells : ℕ → ℤ) (small : Bounded 1000000 cells) (own : World) (ss
   -- ── A ready opening ─────────────────────────────────────────────────────────────────────────────────────────────────
 
   module _ (xs ys : List Step) (o : Opening) (e : ss ≡ xs ++ (opened o ∷ ys)) where
-    by-book : ByBook cells (opening (bookOf cells xs) (rightLengths (o .given)) (o .fuse)) (o .answer) (worldAfter (worldAfterAll own xs) (opened o))
+    by-book : ByBook cells (opening (bookOf cells xs) (rightLengths (o .given)) (o .fuse)) (o .result .answer) (worldAfter (worldAfterAll own xs) (opened o))
         (callsFollow (foldl callsFollow true xs) (opened o))
     by-book = first cells small (bookOf cells xs) (worldAfterAll own xs) _ (opened o) ys (there xs (opened o ∷ ys) e)
 
-    ends-ready : rightLengths (o .given) ≡ true → PowerHolds (o .fuse) (length (closing (ledger (logOf cells xs)))) → o .answer .number ≡ 0
+    ends-ready : rightLengths (o .given) ≡ true → PowerHolds (o .fuse) (length (closing (ledger (logOf cells xs)))) → o .result .answer .number ≡ 0
     ends-ready len h =
         ap (λ (a : Answer). a .number) (by-book .answers) ∙ ap (λ (t : Bool). opening (bookOf cells xs) t (o .fuse) .answer .number) len ∙
         holds-ready (bookOf cells xs) (o .fuse) h
 
-    module _ (zero′ : o .answer .number ≡ 0) where
+    module _ (zero′ : o .result .answer .number ≡ 0) where
       lengths : rightLengths (o .given) ≡ true
       lengths = ready-lengths (bookOf cells xs) _ (o .fuse) (ap (λ (a : Answer). a .number) (sym (by-book .answers)) ∙ zero′)
 
-      at-lengths : ByBook cells (opening (bookOf cells xs) true (o .fuse)) (o .answer) (worldAfter (worldAfterAll own xs) (opened o))
+      at-lengths : ByBook cells (opening (bookOf cells xs) true (o .fuse)) (o .result .answer) (worldAfter (worldAfterAll own xs) (opened o))
           (callsFollow (foldl callsFollow true xs) (opened o))
-      at-lengths = subst (λ (t : Bool). ByBook cells (opening (bookOf cells xs) t (o .fuse)) (o .answer) (worldAfter (worldAfterAll own xs) (opened o))
+      at-lengths = subst (λ (t : Bool). ByBook cells (opening (bookOf cells xs) t (o .fuse)) (o .result .answer) (worldAfter (worldAfterAll own xs) (opened o))
           (callsFollow (foldl callsFollow true xs) (opened o))) lengths by-book
 
       done : opening (bookOf cells xs) true (o .fuse) .answer .number ≡ 0
@@ -95,14 +95,14 @@ module _ (cells : ℕ → ℤ) (small : Bounded 1000000 cells) (own : World) (ss
       its-undone x = subst (λ (l : Book). Logged (l .stored) x → (any (undoes (x .row)) (l .stored) ≡ true) ↔ (isKept (ledger (l .stored)) x ≡ false)) (sym is)
           (undone-or-kept (bookOf cells xs) (o .fuse) sound done x)
 
-      its-rows : Wrote (logOf cells xs) (logOf cells (xs ++ (opened o ∷ []))) (o .answer)
-      its-rows = subst (λ (x : Book). Wrote (logOf cells xs) (x .stored) (o .answer)) (sym is)
+      its-rows : Wrote (logOf cells xs) (logOf cells (xs ++ (opened o ∷ []))) (o .result .answer)
+      its-rows = subst (λ (x : Book). Wrote (logOf cells xs) (x .stored) (o .result .answer)) (sym is)
           (subst (Wrote (logOf cells xs) (opening (bookOf cells xs) true (o .fuse) .book .stored)) (sym (at-lengths .answers))
           (wrote (bookOf cells xs) (o .fuse) sound done))
 
   -- a read that follows at once
-  reads : (xs ys : List Step) (o : Opening) (r : Called) (c : ℕ) → ss ≡ xs ++ (opened o ∷ called r ∷ ys) → o .answer .number ≡ 0
-      → rightLengths (r .given) ≡ true → r .call ≡ Call.read c → c < cellLimit → r .answer ≡ answer 0 (keptSum cells (logOf cells (xs ++ (opened o ∷ []))) c)
+  reads : (xs ys : List Step) (o : Opening) (r : Called) (c : ℕ) → ss ≡ xs ++ (opened o ∷ called r ∷ ys) → o .result .answer .number ≡ 0
+      → rightLengths (r .given) ≡ true → r .call ≡ Call.read c → c < cellLimit → r .result .answer ≡ answer 0 (keptSum cells (logOf cells (xs ++ (opened o ∷ []))) c)
   reads xs ys o r c e zero′ len k h =
       let zs = xs ++ (opened o ∷ []) in
       let a = there zs (called r ∷ ys) (e ∙ sym (append-assoc xs (opened o ∷ []) (called r ∷ ys))) in
@@ -111,18 +111,18 @@ module _ (cells : ℕ → ℤ) (small : Bounded 1000000 cells) (own : World) (ss
 
   -- ── A commit ────────────────────────────────────────────────────────────────────────────────────────────────────────
 
-  lasts : (xs ys zs : List Step) (c : Called) (v : ℕ) → ss ≡ xs ++ (called c ∷ (ys ++ zs)) → c .call ≡ Call.commit v → c .answer .number ≡ 0
-      → Lasts (bookOf cells xs) v (c .answer) (logOf cells (xs ++ (called c ∷ ys)))
+  lasts : (xs ys zs : List Step) (c : Called) (v : ℕ) → ss ≡ xs ++ (called c ∷ (ys ++ zs)) → c .call ≡ Call.commit v → c .result .answer .number ≡ 0
+      → Lasts (bookOf cells xs) v (c .result .answer) (logOf cells (xs ++ (called c ∷ ys)))
   lasts xs ys zs c v e k zero′ =
       let b = bookOf cells xs in
       let len = rightLengths (c .given) in
       let a = there xs (called c ∷ (ys ++ zs)) e in
-      let answers : c .answer ≡ call cells b len (Call.commit v) .answer = first cells small b (worldAfterAll own xs) _ (called c) (ys ++ zs) a .answers ∙
+      let answers : c .result .answer ≡ call cells b len (Call.commit v) .answer = first cells small b (worldAfterAll own xs) _ (called c) (ys ++ zs) a .answers ∙
       ap (λ (x : Call). call cells b len x .answer) k in
       let is : bookOf cells (xs ++ (called c ∷ ys)) ≡ bookAfter cells (call cells b len (Call.commit v) .book) (map eventOf ys) =
       book-append cells formatted xs (called c ∷ ys) ∙ ap (λ (x : Call). bookAfter cells (call cells b len x .book) (map eventOf ys)) k in
       let done : call cells b len (Call.commit v) .answer .number ≡ 0 = ap (λ (x : Answer). x .number) (sym answers) ∙ zero′ in
-      subst (λ (x : Book). Lasts (bookOf cells xs) v (c .answer) (x .stored)) (sym is)
+      subst (λ (x : Book). Lasts (bookOf cells xs) v (c .result .answer) (x .stored)) (sym is)
       (subst (λ (x : Answer). Lasts (bookOf cells xs) v x (bookAfter cells (call cells b len (Call.commit v) .book) (map eventOf ys) .stored)) (sym answers)
       (commit-stays cells b len v (a .held .sound) done (map eventOf ys) (typed _ _ ys zs (a .host .1))))
 
@@ -152,6 +152,6 @@ held-formatted values own f =
 
 pub demand-3 : Demand3
 unfolding Demand3
-demand-3 values given a own post done ss host contracts =
-    let f = formatted-store values given own a post done in
-    holds (cellsOf values) (f .small) own (steps ss) (record { held = held-formatted values own f; host = host; contracts = contracts })
+demand-3 values given x post done ss host contracts =
+    let f = formatted-store values given x post done in
+    holds (cellsOf values) (f .small) (x .world) (steps ss) (record { held = held-formatted values (x .world) f; host = host; contracts = contracts })

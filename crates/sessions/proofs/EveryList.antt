@@ -9,12 +9,11 @@ use mathlib.Core.List.{List, [], _∷_, _++_, map}
 use lib.IntN.{ℤ, pos}
 use lib.Dec.{eqb}
 use Rattle.book.specs.Power.{Book, Fuse, formatted}
-use Rattle.book.specs.Book.{Answer, answer}
 use Rattle.book.specs.Events.{Event, happens}
 use Rattle.book.proofs.Sound.{TypedEvent, TypedEvents}
 use Rattle.book.proofs.Pages.{Bounded}
 use Rattle.state.specs.World.{World}
-use Rattle.state.specs.Contracts.{Answered, opens, byBook, cellsOf, FormatPost}
+use Rattle.state.specs.Contracts.{Answered, answered, opens, byBook, cellsOf, FormatPost}
 use Rattle.state.proofs.Lengths.{represented-lengths}
 use Rattle.state.proofs.OpenedStores.{opens-refused}
 use Rattle.state.proofs.FormattedStores.{formatted-store}
@@ -31,14 +30,10 @@ short w = record { state = w .state; log = []; charts = w .charts; copy = w .cop
 
 -- the step of an event, by the book
 abbrev stepOf : (ℕ → ℤ) → Book → World → Event → Step
-stepOf cells b own (Event.opens true f) =
-    let r : Answered = opens f own in
-    opened (record { fuse = f; asLeft = true; given = own; answer = r .answer; leaves = r .world })
-stepOf cells b own (Event.opens false f) = opened (record { fuse = f; asLeft = true; given = short own; answer = answer 1 (pos 0); leaves = short own })
-stepOf cells b own (Event.calls true k) =
-    let r : Answered = byBook cells b k own in
-    called (record { call = k; given = own; answer = r .answer; leaves = r .world })
-stepOf cells b own (Event.calls false k) = called (record { call = k; given = short own; answer = answer 1 (pos 0); leaves = short own })
+stepOf cells b own (Event.opens true f) = opened (record { fuse = f; asLeft = true; given = own; result = opens f own })
+stepOf cells b own (Event.opens false f) = opened (record { fuse = f; asLeft = true; given = short own; result = answered 1 (pos 0) (short own) })
+stepOf cells b own (Event.calls true k) = called (record { call = k; given = own; result = byBook cells b k own })
+stepOf cells b own (Event.calls false k) = called (record { call = k; given = short own; result = answered 1 (pos 0) (short own) })
 
 -- the host may lend the store's own values, and for one step another log
 lends-own : (own : World) → GetsStored own own × GetsRam own own
@@ -134,24 +129,25 @@ pub record Lawful (own : World) (es : List Event) : Type 0 where
   pub host : Host own true (steps sessions)
   pub contracts : Contracts (steps sessions)
 
--- the first event is an opening, as a list of sessions has it
-pub every-list : (values : List ℤ) (given : World) (answer : Answer) (own : World) → FormatPost values given answer own → answer .number ≡ 0
-    → (lengths : Bool) (f : Fuse) (es : List Event) → TypedEvents es → Lawful own (Event.opens lengths f ∷ es)
-every-list values given a own post done lengths f es t =
-    let z = formatted-store values given own a post done in
-    let x = steps-of (cellsOf values) (z .small) (Event.opens lengths f ∷ es) formatted own (held-formatted values own z) (tt, t) in
-    go (x .list) (sessions-of (x .list)) (x .events) (x .host) (x .contracts)
+-- a list of steps whose first event is an opening, as a list of sessions has it
+lawful : (own : World) (lengths : Bool) (f : Fuse) (es : List Event) (xs : List Step) → Sessions xs → map eventOf xs ≡ Event.opens lengths f ∷ es
+    → Host own true xs → Contracts xs → Lawful own (Event.opens lengths f ∷ es)
+lawful own lengths f es xs r e h c = its (r .calls) (r .are)
   where
-    go : (xs : List Step) → Sessions xs → map eventOf xs ≡ Event.opens lengths f ∷ es → Host own true xs → Contracts xs → Lawful own (Event.opens lengths f ∷ es)
-    go xs r e h c = its (r .calls) (r .are)
-      where
-        its : (cs : List Called) → xs ≡ map called cs ++ steps (r .sessions) → Lawful own (Event.opens lengths f ∷ es)
-        its [] q = record {
-          sessions = r .sessions;
-          events = ap (map eventOf) (sym q) ∙ e;
-          host = subst (Host own true) q h;
-          contracts = subst Contracts q c;
-        }
-        its (k ∷ cs) q =
-            let bad : eventOf (called k) ∷ map eventOf (map called cs ++ steps (r .sessions)) ≡ Event.opens lengths f ∷ es = ap (map eventOf) (sym q) ∙ e in
-            let no′ : _≡_ {A = ℕ} 0 1 = cc in absurd (omega arith)
+    its : (cs : List Called) → xs ≡ map called cs ++ steps (r .sessions) → Lawful own (Event.opens lengths f ∷ es)
+    its [] q = record {
+      sessions = r .sessions;
+      events = ap (map eventOf) (sym q) ∙ e;
+      host = subst (Host own true) q h;
+      contracts = subst Contracts q c;
+    }
+    its (k ∷ cs) q =
+        let bad : eventOf (called k) ∷ map eventOf (map called cs ++ steps (r .sessions)) ≡ Event.opens lengths f ∷ es = ap (map eventOf) (sym q) ∙ e in
+        let no′ : _≡_ {A = ℕ} 0 1 = cc in absurd (omega arith)
+
+pub every-list : (values : List ℤ) (given : World) (format : Answered) → FormatPost values given format → format .answer .number ≡ 0
+    → (lengths : Bool) (f : Fuse) (es : List Event) → TypedEvents es → Lawful (format .world) (Event.opens lengths f ∷ es)
+every-list values given format post done lengths f es t =
+    let z = formatted-store values given format post done in
+    let x = steps-of (cellsOf values) (z .small) (Event.opens lengths f ∷ es) formatted (format .world) (held-formatted values (format .world) z) (tt, t) in
+    lawful (format .world) lengths f es (x .list) (sessions-of (x .list)) (x .events) (x .host) (x .contracts)

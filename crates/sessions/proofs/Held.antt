@@ -50,10 +50,9 @@ pub record ByBook (cells : ℕ → ℤ) (o : Outcome) (answer : Answer) (own : W
   pub held : Held cells (o .book) own follow
 
 -- of a step that left these values
-left : (cells : ℕ → ℤ) (o : Outcome) (answer : Answer) (own leaves : World) (charts : List ℕ) (follow : Bool) → own ≡ leaves
-    → record { answer = answer; world = leaves } ≡ byOpening cells charts o → Sound (o .book) → Charts cells (o .book .stored) charts
-    → ByBook cells o answer own follow
-left cells o answer own leaves charts follow e is s C = record {
+left : (cells : ℕ → ℤ) (o : Outcome) (x : Answered) (own : World) (charts : List ℕ) (follow : Bool) → own ≡ x .world
+    → x ≡ byOpening cells charts o → Sound (o .book) → Charts cells (o .book .stored) charts → ByBook cells o (x .answer) own follow
+left cells o x own charts follow e is s C = record {
   answers = ap (λ (r : Answered). r .answer) is;
   held = subst (λ (w : World). Held cells (o .book) w follow) (sym (e ∙ ap (λ (r : Answered). r .world) is)) (held-world cells (o .book) charts follow s C);
 }
@@ -61,20 +60,20 @@ left cells o answer own leaves charts follow e is s C = record {
 module _ (cells : ℕ → ℤ) (small : Bounded 1000000 cells) (b : Book) (own : World) (follow : Bool) (h : Held cells b own follow) where
   -- ── Calls ───────────────────────────────────────────────────────────────────────────────────────────────────────────
 
-  step-call : (c : Called) → HostDoes own follow (called c) → CallPost (c .call) (c .given) (c .answer) (c .leaves)
-      → (t : Bool) → rightLengths (c .given) ≡ t → ByBook cells (call cells b t (c .call)) (c .answer) (worldAfter own (called c)) follow
+  step-call : (c : Called) → HostDoes own follow (called c) → CallPost (c .call) (c .given) (c .result)
+      → (t : Bool) → rightLengths (c .given) ≡ t → ByBook cells (call cells b t (c .call)) (c .result .answer) (worldAfter own (called c)) follow
   unfolding byBook
   step-call c may post true e =
       let same = given-own own (c .given) (may .2) (may .3) e in
       let open-held : Held cells b own true = subst (Held cells b own) (may .0) h in
       let stands = subst (Represents cells b) (sym same) (represents cells b own small open-held) in
-      left cells (call cells b true (c .call)) (c .answer) (worldAfter own (called c)) (c .leaves) _ follow (after-right own (called c) e)
+      left cells (call cells b true (c .call)) (c .result) (worldAfter own (called c)) _ follow (after-right own (called c) e)
       (post .is e cells b stands) (sound-call cells b true (c .call) (h .sound) (may .1))
       (charts-call cells b (c .call) (c .given .charts) (h .sound) (stands .charts))
   step-call c may post false e =
       let is = post .lengths e in
       let as-before = after-same own (called c) (may .2) (may .3) (ap (λ (r : Answered). r .world) is) in
-      subst (λ (o : Outcome). ByBook cells o (c .answer) (worldAfter own (called c)) follow) (sym (call-refused (c .call)))
+      subst (λ (o : Outcome). ByBook cells o (c .result .answer) (worldAfter own (called c)) follow) (sym (call-refused (c .call)))
       (record { answers = ap (λ (r : Answered). r .answer) is; held = subst (λ (w : World). Held cells b w follow) (sym as-before) h })
     where
       call-refused : (k : Call) → call cells b false k ≡ refused 1 b
@@ -82,8 +81,8 @@ module _ (cells : ℕ → ℤ) (small : Bounded 1000000 cells) (b : Book) (own :
 
   -- ── Openings ────────────────────────────────────────────────────────────────────────────────────────────────────────
 
-  step-open : (o : Opening) → HostDoes own follow (opened o) → OpenPost (o .fuse) (o .given) (o .answer) (o .leaves) → (t : Bool) → rightLengths (o .given) ≡ t
-      → ByBook cells (opening b t (o .fuse)) (o .answer) (worldAfter own (opened o)) (callsFollow follow (opened o))
+  step-open : (o : Opening) → HostDoes own follow (opened o) → OpenPost (o .fuse) (o .given) (o .result) → (t : Bool) → rightLengths (o .given) ≡ t
+      → ByBook cells (opening b t (o .fuse)) (o .result .answer) (worldAfter own (opened o)) (callsFollow follow (opened o))
   unfolding opening
   step-open o may post true e =
       let k = right (o .given) e in
@@ -92,7 +91,7 @@ module _ (cells : ℕ → ℤ) (small : Bounded 1000000 cells) (b : Book) (own :
       let same = lent-own chartsLength _ _ (may .0 .charts) (k .charts) in
       let C = subst (Charts cells (b .stored)) (sym same) (h .charts) in
       let good = charts-accepted cells 1000000 small (b .stored) al (omega arith) (o .given .charts) C in
-      left cells (opening b true (o .fuse)) (o .answer) (worldAfter own (opened o)) (o .leaves) (o .given .charts) _ (after-right own (opened o) e)
+      left cells (opening b true (o .fuse)) (o .result) (worldAfter own (opened o)) (o .given .charts) _ (after-right own (opened o) e)
       (post .is ∙ opens-book cells 1000000 small (b .stored) al (omega arith) (o .fuse) (o .given) e log C good)
       (sound-opening b true (o .fuse) (h .sound))
       (charts-kept cells (b .stored) (opening b true (o .fuse) .book .stored) (o .given .charts) (grows-open b true (o .fuse)) C)
@@ -109,7 +108,7 @@ module _ (cells : ℕ → ℤ) (small : Bounded 1000000 cells) (b : Book) (own :
           log = log ∙ h .log;
           charts = subst (Charts cells (b .stored)) (sym charts) (h .charts);
           is = λ r.
-              let both : (follow && o .asLeft) ≡ true = rw (eq-eqb (o .answer .number) 1 number) at r in
+              let both : (follow && o .asLeft) ≡ true = rw (eq-eqb (o .result .answer .number) 1 number) at r in
               let as-before = after-same own (opened o) (may .0) (may .1 (and-r follow (o .asLeft) both)) nothing in
               as-before ∙ h .is (and-l follow (o .asLeft) both) ∙ ap (worldOf cells b) (sym charts);
         };

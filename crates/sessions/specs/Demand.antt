@@ -21,7 +21,7 @@ use Rattle.book.specs.LogBytes.{logBytes}
 use Rattle.book.specs.Pages.{cellOf, rowAt}
 use Rattle.book.specs.Logs.{Logged, InSum, undoes, Once}
 use Rattle.state.specs.World.{World, rightLengths}
-use Rattle.state.specs.Contracts.{FormatPost, cellsOf}
+use Rattle.state.specs.Contracts.{Answered, FormatPost, cellsOf}
 use Rattle.sessions.specs.Host.{Opening, Called, Session, Step, opened, called, steps, answerOf, eventOf, worldAfterAll, Host, Contracts}
 
 -- the book after these steps, and its stored rows
@@ -60,28 +60,28 @@ pub record Holds (cells : ℕ → ℤ) (own : World) (ss : List Step) : Type 0 w
   pub stands : (xs ys zs : List Step) → ss ≡ xs ++ (ys ++ zs) → StartsWith (logOf cells xs) (logOf cells (xs ++ ys))
   -- "After every opening that ends ready, each cell is the formatted value plus the sum of the logged changes whose last holder has a commit row."
   -- 01: "After a ready opening a cell is the copy's, and a read that follows at once gives it."
-  pub sums : (xs ys : List Step) (o : Opening) → ss ≡ xs ++ (opened o ∷ ys) → o .answer .number ≡ 0 → (c : ℕ) → c < cellLimit →
+  pub sums : (xs ys : List Step) (o : Opening) → ss ≡ xs ++ (opened o ∷ ys) → o .result .answer .number ≡ 0 → (c : ℕ) → c < cellLimit →
       cellOf (worldAfterAll own (xs ++ (opened o ∷ [])) .copy) c ≡ keptSum cells (logOf cells (xs ++ (opened o ∷ []))) c
-  pub reads : (xs ys : List Step) (o : Opening) (r : Called) (c : ℕ) → ss ≡ xs ++ (opened o ∷ called r ∷ ys) → o .answer .number ≡ 0 →
-      rightLengths (r .given) ≡ true → r .call ≡ Call.read c → c < cellLimit → r .answer ≡ answer 0 (keptSum cells (logOf cells (xs ++ (opened o ∷ []))) c)
+  pub reads : (xs ys : List Step) (o : Opening) (r : Called) (c : ℕ) → ss ≡ xs ++ (opened o ∷ called r ∷ ys) → o .result .answer .number ≡ 0 →
+      rightLengths (r .given) ≡ true → r .call ≡ Call.read c → c < cellLimit → r .result .answer ≡ answer 0 (keptSum cells (logOf cells (xs ++ (opened o ∷ []))) c)
   -- "Each commit answered done has its row in the log from then on, and every change its visit then held is in every later sum."
-  pub commits : (xs ys zs : List Step) (c : Called) (v : ℕ) → ss ≡ xs ++ (called c ∷ (ys ++ zs)) → c .call ≡ Call.commit v → c .answer .number ≡ 0 →
-      Lasts (bookOf cells xs) v (c .answer) (logOf cells (xs ++ (called c ∷ ys)))
+  pub commits : (xs ys zs : List Step) (c : Called) (v : ℕ) → ss ≡ xs ++ (called c ∷ (ys ++ zs)) → c .call ≡ Call.commit v → c .result .answer .number ≡ 0 →
+      Lasts (bookOf cells xs) v (c .result .answer) (logOf cells (xs ++ (called c ∷ ys)))
   -- "After a ready opening a logged change has an undo row exactly when it isn't in the sum."
-  pub undone : (xs ys : List Step) (o : Opening) → ss ≡ xs ++ (opened o ∷ ys) → o .answer .number ≡ 0 →
+  pub undone : (xs ys : List Step) (o : Opening) → ss ≡ xs ++ (opened o ∷ ys) → o .result .answer .number ≡ 0 →
       (x : Change) → Logged (logOf cells (xs ++ (opened o ∷ []))) x →
       (any (undoes (x .row)) (logOf cells (xs ++ (opened o ∷ []))) ≡ true) ↔ (isKept (ledger (logOf cells (xs ++ (opened o ∷ [])))) x ≡ false)
   -- "No log has two undo rows for a change or two abort rows for a visit."
   pub once : (xs ys : List Step) → ss ≡ xs ++ ys → Once (logOf cells xs)
   -- "An opening whose lent buffers have 01's lengths and whose power holds ends ready."
   pub ready : (xs ys : List Step) (o : Opening) → ss ≡ xs ++ (opened o ∷ ys) → rightLengths (o .given) ≡ true →
-      PowerHolds (o .fuse) (length (closing (ledger (logOf cells xs)))) → o .answer .number ≡ 0
+      PowerHolds (o .fuse) (length (closing (ledger (logOf cells xs)))) → o .result .answer .number ≡ 0
   -- 01: an opening "returns the rows it wrote", and an undo count that isn't the number of undo rows is shut out
-  pub wrote : (xs ys : List Step) (o : Opening) → ss ≡ xs ++ (opened o ∷ ys) → o .answer .number ≡ 0 →
-      Wrote (logOf cells xs) (logOf cells (xs ++ (opened o ∷ []))) (o .answer)
+  pub wrote : (xs ys : List Step) (o : Opening) → ss ≡ xs ++ (opened o ∷ ys) → o .result .answer .number ≡ 0 →
+      Wrote (logOf cells xs) (logOf cells (xs ++ (opened o ∷ []))) (o .result .answer)
 
 -- After an accepted format, any list of sessions of a host that keeps to 01, whatever functions meet the contracts.
 unfoldable pub Demand3 : Type 0
 Demand3 =
-    (values : List ℤ) (given : World) (answer : Answer) (own : World) → FormatPost values given answer own → answer .number ≡ 0 →
-    (ss : List Session) → Host own true (steps ss) → Contracts (steps ss) → Holds (cellsOf values) own (steps ss)
+    (values : List ℤ) (given : World) (format : Answered) → FormatPost values given format → format .answer .number ≡ 0 →
+    (ss : List Session) → Host (format .world) true (steps ss) → Contracts (steps ss) → Holds (cellsOf values) (format .world) (steps ss)

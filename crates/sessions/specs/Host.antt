@@ -13,23 +13,21 @@ use Rattle.book.specs.Power.{Fuse}
 use Rattle.book.specs.Book.{Answer}
 use Rattle.book.specs.Events.{Event, opens, calls}
 use Rattle.state.specs.World.{World, rightLengths}
-use Rattle.state.specs.Contracts.{OpenPost, CallPost}
+use Rattle.state.specs.Contracts.{Answered, OpenPost, CallPost}
 
 -- ── What happens ──────────────────────────────────────────────────────────────────────────────────────────────────────
 
--- an opening or a call: what it is given, what it answers and what it leaves of what it was given
+-- an opening or a call: what it is given, and what it answers and leaves of it
 pub record Opening : Type 0 where
   pub fuse : Fuse
   pub asLeft : Bool  -- it gets the state, copy and scopes that the call before it returned or left
   pub given : World
-  pub answer : Answer
-  pub leaves : World
+  pub result : Answered
 
 pub record Called : Type 0 where
   pub call : Call
   pub given : World
-  pub answer : Answer
-  pub leaves : World
+  pub result : Answered
 
 -- 01: a session, an opening, then any list of calls
 pub record Session : Type 0 where
@@ -50,12 +48,12 @@ givenTo (opened o) = o .given
 givenTo (called c) = c .given
 
 abbrev pub answerOf : Step → Answer
-answerOf (opened o) = o .answer
-answerOf (called c) = c .answer
+answerOf (opened o) = o .result .answer
+answerOf (called c) = c .result .answer
 
 abbrev pub leftBy : Step → World
-leftBy (opened o) = o .leaves
-leftBy (called c) = c .leaves
+leftBy (opened o) = o .result .world
+leftBy (called c) = c .result .world
 
 -- the step as the book sees it: its fuse or its call, and whether the buffers had 01's lengths
 abbrev pub eventOf : Step → Event
@@ -103,7 +101,7 @@ pub record GetsRam (own given : World) : Type 0 where
 -- making and a short buffer is refused by 1 and leaves that state; a second one gets it as left, with a short buffer, and is refused by 1; a begin would
 -- then be accepted where the book says 5.)
 abbrev pub callsFollow : Bool → Step → Bool
-callsFollow follow (opened o) = cond (eqb (o .answer .number) 1) (follow && o .asLeft) true
+callsFollow follow (opened o) = cond (eqb (o .result .answer .number) 1) (follow && o .asLeft) true
 callsFollow follow (called c) = follow
 
 abbrev pub HostDoes : World → Bool → Step → Type 0
@@ -118,8 +116,8 @@ Host own follow (s ∷ ss) = HostDoes own follow s × Host (worldAfter own s) (c
 -- ── What the contracts say ────────────────────────────────────────────────────────────────────────────────────────────
 
 abbrev pub Contract : Step → Type 0
-Contract (opened o) = OpenPost (o .fuse) (o .given) (o .answer) (o .leaves)
-Contract (called c) = CallPost (c .call) (c .given) (c .answer) (c .leaves)
+Contract (opened o) = OpenPost (o .fuse) (o .given) (o .result)
+Contract (called c) = CallPost (c .call) (c .given) (c .result)
 
 abbrev pub Contracts : List Step → Type 0
 Contracts [] = Unit {0}
