@@ -5,3 +5,6 @@ pub mod ReadyOpenings
 pub mod Commits
 pub mod Demand
 pub mod EveryList
+pub mod Freedom
+pub mod Made
+pub mod OpenReads
