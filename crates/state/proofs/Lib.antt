@@ -7,3 +7,5 @@ pub mod Ready
 pub mod SameBook
 pub mod Agree
 pub mod Satisfiable
+pub mod Rounds
+pub mod Numbers

@@ -2,3 +2,4 @@ pub mod Answers
 pub mod Requests
 pub mod World
 pub mod Contracts
+pub mod Numbers
