@@ -14,7 +14,7 @@ use crate::ram::refused;
 use charts::page::build_page;
 use journal::lengths::lengths_fit;
 use journal::writes::clear;
-use recovery_model::Outcome;
+use recovery_model::Restart;
 use rows::Cell;
 use state::answers::Answer;
 use state::ram::State;
@@ -67,7 +67,7 @@ pub fn format(
     charts: &mut [u8],
     copy: &mut [u8],
     scopes: usize,
-) -> Outcome
+) -> Restart
     ensures { λ r. ⌜ ((table : List Scope) → length table ≡ scopes
         → leaves r (now (log .exit)) (now (charts .exit)) (now (copy .exit)) table
         ≡ formats (now (cells .entry)) (world state (now (log .entry)) (now (charts .entry)) (now (copy .entry)) table)) ⌝ }

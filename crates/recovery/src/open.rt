@@ -23,7 +23,7 @@ use crate::scan::scan_log;
 use journal::Control;
 use journal::lengths::lengths_fit;
 use recovery_model::LogScan;
-use recovery_model::Outcome;
+use recovery_model::Restart;
 use recovery_model::Reason;
 use rows::Lsn;
 use state::answers::Answer;
@@ -41,7 +41,7 @@ fn rows_written(c: Control, rows: usize) -> u16
 }
 
 // Ready, or the power failed on the way.
-fn settle(c: Control, rows: usize, begun: u16, tail: [u8; 1024], copy: &mut [u8]) -> Outcome
+fn settle(c: Control, rows: usize, begun: u16, tail: [u8; 1024], copy: &mut [u8]) -> Restart
     requires { ⌜ c .stored + c .waiting ≤ 4096 ⌝ }
     requires { ⌜ length (now copy) ≡ 1024 ⌝ }
     ensures { λ r. ⌜ ((log charts : List ℕ) (table : List Scope) → leaves r log charts (now (copy .exit)) table
@@ -56,7 +56,7 @@ fn settle(c: Control, rows: usize, begun: u16, tail: [u8; 1024], copy: &mut [u8]
     }
     let n = rows_written(c, rows);
     let state = opened_state(c, begun, tail);
-    Outcome {
+    Restart {
         state: state,
         answer: Answer::Wrote(n),
         clears: true,
@@ -71,7 +71,7 @@ fn recover(
     charts: &[u8],
     copy: &mut [u8],
     scopes: &mut [u16],
-) -> Outcome
+) -> Restart
     requires { ⌜ Recovers s (length (now log)) (length (now copy)) (length (now scopes)) ⌝ }
     requires { ⌜ length (now charts) ≡ 1024 ⌝ }
     ensures { λ r. ⌜ ((table : List Scope) → leaves r (now (log .exit)) (now (charts .entry)) (now (copy .exit)) table
@@ -106,7 +106,7 @@ fn open_scanned(
     charts: &[u8],
     copy: &mut [u8],
     scopes: &mut [u16],
-) -> Outcome
+) -> Restart
     requires { ⌜ Recovers s (length (now log)) (length (now copy)) (length (now scopes)) ⌝ }
     requires { ⌜ (s .bad ≤ 4096) × (length (now charts) ≡ 1024) ⌝ }
     ensures { λ r. ⌜ ((table : List Scope) → leaves r (now (log .exit)) (now (charts .entry)) (now (copy .exit)) table
@@ -132,7 +132,7 @@ pub fn open(
     copy: &mut [u8],
     scopes: usize,
     fuse: Fuse,
-) -> Outcome
+) -> Restart
     ensures { λ r. ⌜ ((table : List Scope) → length table ≡ scopes
         → leaves r (now (log .exit)) (now (charts .entry)) (now (copy .exit)) table
         ≡ opensBy fuse (world state (now (log .entry)) (now (charts .entry)) (now (copy .entry)) table)) ⌝ }

@@ -7,7 +7,7 @@ ghost use Rattle.state.specs.World.{closedState};
 ghost use Rattle.recovery_model.specs.Answering.{openedState};
 use journal::Control;
 use journal::writes::clear;
-use recovery_model::Outcome;
+use recovery_model::Restart;
 use rows::Visit;
 use state::answers::Answer;
 use state::ram::Fuse;
@@ -34,10 +34,10 @@ pub fn closed_state() -> State
 }
 
 // Nothing is changed.
-pub(crate) fn refused(state: State, answer: Answer) -> Outcome
+pub(crate) fn refused(state: State, answer: Answer) -> Restart
     ensures { λ r. ⌜ r ≡ record { state = state; answer = answer; clears = false } ⌝ }
 {
-    Outcome {
+    Restart {
         state: state,
         answer: answer,
         clears: false,
@@ -45,13 +45,13 @@ pub(crate) fn refused(state: State, answer: Answer) -> Outcome
 }
 
 // The store is closed, and the copy cleared.
-pub(crate) fn closed_by(copy: &mut [u8], answer: Answer) -> Outcome
+pub(crate) fn closed_by(copy: &mut [u8], answer: Answer) -> Restart
     requires { ⌜ length (now copy) ≡ 1024 ⌝ }
     ensures { λ r. ⌜ (r ≡ record { state = closedState; answer = answer; clears = true }) × (now (copy .exit) ≡ noCopy) ⌝ }
 {
     clear(copy);
     let state = closed_state();
-    Outcome {
+    Restart {
         state: state,
         answer: answer,
         clears: true,

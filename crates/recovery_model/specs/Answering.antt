@@ -10,7 +10,7 @@ use Rattle.state.specs.declared.ram.State.{State}
 use Rattle.state.specs.World.{scopeOf}
 use Rattle.state.specs.Contracts.{Answered, returned}
 use Rattle.journal.specs.declared.Control.{Control}
-use Rattle.recovery_model.specs.declared.Outcome.{Outcome}
+use Rattle.recovery_model.specs.declared.Restart.{Restart}
 use Rattle.recovery_model.specs.Openings.{noneActive}
 
 -- the lent scope table: every entry unused, or as it was
@@ -18,7 +18,7 @@ abbrev pub tableAfter : Bool → List Scope → List Scope
 tableAfter clears table = cond clears (replicate scopeLimit (scopeOf unused)) table
 
 -- the outcome of a format or an opening, what the buffers are after it, and the table that was lent
-abbrev pub leaves : Outcome → List ℕ → List ℕ → List ℕ → List Scope → Answered
+abbrev pub leaves : Restart → List ℕ → List ℕ → List ℕ → List Scope → Answered
 leaves r log charts copy table = returned (record { state = r .state; answer = r .answer }) log charts copy (tableAfter (r .clears) table)
 
 -- the state of a ready opening

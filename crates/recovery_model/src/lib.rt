@@ -35,7 +35,7 @@ pub struct LogScan {
 }
 
 // What a format or an opening gives back besides the buffers: the state and the answer, and whether every entry of the lent scope table is to be unused.
-pub struct Outcome {
+pub struct Restart {
     pub state: State,
     pub answer: Answer,
     pub clears: bool,
