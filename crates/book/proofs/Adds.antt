@@ -10,8 +10,8 @@ use borrow.Author.Tests.{eqb-true, eq-eqb, leb-false, le-leb, lt-ltb, not-false}
 use Rattle.book.specs.Lists.{foldl}
 use Rattle.book.specs.Limits.{visitLimit, activeLimit}
 use Rattle.book.specs.Rows.{Row, isVisit, isCell, fits}
-use Rattle.book.specs.Ledger.{Ledger, after}
-use Rattle.book.specs.Rules.{isActive, bearsUndo, just, room, scopeFits, holdsAny, lawful, withinLimits, allowed, allAllowed}
+use Rattle.book.specs.Ledger.{Ledger, only, after}
+use Rattle.book.specs.Rules.{isActive, bearsUndo, just, room, scopeFits, holdsAny, mayHandOver, lawful, withinLimits, allowed, allAllowed}
 use Rattle.book.specs.Calls.{Call, Typed}
 use Rattle.book.specs.Power.{Book, ledgerOf}
 use Rattle.book.specs.Book.{refusal, adds}
@@ -42,6 +42,10 @@ alone l r e w = record { good = and-i _ _ e refl; whole = w }
 
 is-visit : (l : Ledger) (v : ℕ) → Inv l → isActive l v ≡ true → isVisit v ≡ true
 is-visit l v i a = let ct = i .count in let od = i .old v a in and-i _ _ (le-leb 1 v (i .first v a)) (le-leb v visitLimit (omega arith))
+
+may-hand-over : (l : Ledger) (g r : ℕ) (cs : ℕ → Bool) → Whole l → isActive l g ≡ true → isActive l r ≡ true → eqb g r ≡ false → holdsAny l g cs ≡ true
+    → mayHandOver l g r cs ≡ true
+may-hand-over l g r cs w ag ar ne h = and-i _ _ (and-i _ _ (and-i _ _ (and-i _ _ (and-i _ _ (ap not ne) ag) ar) (ap not (w g ag))) (ap not (w r ar))) h
 
 pub fine-adds : (b : Book) (k : Call) → Inv (ledgerOf b) → Whole (ledgerOf b) → Typed k → refusal b k ≡ 0 → Fine (ledgerOf b) (adds b k)
 unfolding refusal adds allowed fits lawful withinLimits after
@@ -77,14 +81,12 @@ fine-adds b (Call.handOver g r c) i w t e =
     let q = passes (not (isActive l r)) 8 _ (p .1) in
     let s = passes (eqb g r) 11 _ (q .1) in
     let u = passes (not (isCell c)) 9 _ (s .1) in
-    let x = passes (not (holdsAny l g c)) 12 _ (u .1) in
+    let x = passes (not (holdsAny l g (only c))) 12 _ (u .1) in
     let y = passes (not (room l 1)) 7 _ (x .1) in
     let ag = not-false (isActive l g) (p .0) in
     let ar = not-false (isActive l r) (q .0) in
     let fit : fits (Row.handOver g r c) ≡ true = and-i _ _ (and-i _ _ (is-visit l g i ag) (is-visit l r i ar)) (not-false _ (u .0)) in
-    let law : lawful l (Row.handOver g r c) ≡ true =
-    and-i _ _ (and-i _ _ (and-i _ _ (and-i _ _ (and-i _ _ (ap not (s .0)) ag) ar) (ap not (w g ag))) (ap not (w r ar))) (not-false _ (x .0)) in
-    alone l (Row.handOver g r c) (and-i _ _ (and-i _ _ fit law) (not-false _ (y .0))) w
+    alone l (Row.handOver g r c) (and-i _ _ (and-i _ _ fit (may-hand-over l g r (only c) w ag ar (s .0) (not-false _ (x .0)))) (not-false _ (y .0))) w
 fine-adds b (Call.commit v) i w t e =
     let l = ledgerOf b in
     let act = not-false (isActive l v) (passes (not (isActive l v)) 8 _ e .0) in

@@ -1,7 +1,7 @@
 -- What demand 3 asks of the book alone: stored logs only grow, and a commit that is done is in every later log, with all that its visit held.
 use Prim.Native.Nat.{ℕ, suc, _+_, _-_, _≤_}
 use native.Mathlib.Omega.{arith}
-use mathlib.Core.Path.{_≡_, ap, sym, _∙_, subst}
+use mathlib.Core.Path.{_≡_, refl, ap, sym, _∙_, subst}
 use mathlib.Core.Bool.{Bool, true, false}
 use mathlib.Core.List.{List, [], _∷_, _++_, append-assoc, append-nil}
 use lib.ListN.{length, length-append}
@@ -14,9 +14,9 @@ use Rattle.book.specs.Rows.{Row}
 use Rattle.book.specs.Ledger.{Change, Ledger, after}
 use Rattle.book.specs.Rules.{allowedLog}
 use Rattle.book.specs.Cells.{isKept}
-use Rattle.book.specs.Calls.{Call}
+use Rattle.book.specs.Calls.{Call, Ending, forces, ending}
 use Rattle.book.specs.Power.{Book, Fuse, rowsOf, ledgerOf, addAll}
-use Rattle.book.specs.Book.{adds, through, value, Answer, Outcome, call, opening}
+use Rattle.book.specs.Book.{adds, finish, through, value, Answer, Outcome, call, opening}
 use Rattle.book.specs.Pages.{rowAt}
 use Rattle.book.specs.Events.{Event, opens, calls, happens, bookAfter}
 use Rattle.book.specs.Logs.{Logged, InSum, Sound}
@@ -54,15 +54,54 @@ grows-events cells b (e ∷ es) s t =
     let b′ = happens cells b e .book in
     starts-trans (b .stored) (b′ .stored) (bookAfter cells b′ es .stored) (grows cells b e s) (grows-events cells b′ es (sound-event cells b e s (t .0)) (t .1))
 
--- ── A commit ──────────────────────────────────────────────────────────────────────────────────────────────────────────
+-- ── A call that forces and adds one row ───────────────────────────────────────────────────────────────────────────────
 
--- an accepted commit whose power holds stores all rows and its own
-pub commit-stored : (b : Book) (v : ℕ) → Sound b → through b (Call.commit v) .isOpen ≡ true
-    → through b (Call.commit v) .stored ≡ rowsOf b ++ (Row.commit v ∷ [])
-unfolding through adds
-commit-stored b v s o =
-    sym (append-nil _) ∙ sym (ap (λ (l : List Row). through b (Call.commit v) .stored ++ l) (force-empties (addAll b (Row.commit v ∷ [])))) ∙
-    extends-through b (Call.commit v) (s .shut) .rows o
+-- accepted and its power holds: all rows and its own are stored
+pub forced-stored : (b : Book) (k : Call) (r : Row) → Sound b → ending k ≡ forces → adds b k ≡ r ∷ [] → through b k .isOpen ≡ true
+    → through b k .stored ≡ rowsOf b ++ (r ∷ [])
+unfolding through
+forced-stored b k r s fc one o =
+    let none : through b k .waiting ≡ [] = ap (λ (e : Ending). finish e (addAll b (adds b k)) .waiting) fc ∙ force-empties (addAll b (adds b k)) in
+    sym (append-nil _) ∙ sym (ap (λ (l : List Row). through b k .stored ++ l) none) ∙ extends-through b k (s .shut) .rows o ∙
+    ap (λ (l : List Row). rowsOf b ++ l) one
+
+-- answered done: its row is stored after all others, and its value is the book's
+pub record ForcedDone (cells : ℕ → ℤ) (b : Book) (k : Call) (r : Row) (o : Outcome) : Type 0 where
+  pub stored : o .book .stored ≡ rowsOf b ++ (r ∷ [])
+  pub value : o .answer .value ≡ value cells b k
+
+pub forced-done : (cells : ℕ → ℤ) (b : Book) (lengths : Bool) (k : Call) (r : Row) → Sound b → ending k ≡ forces → adds b k ≡ r ∷ []
+    → call cells b lengths k .answer .number ≡ 0 → ForcedDone cells b k r (call cells b lengths k)
+forced-done cells b lengths k r s fc one d = go (decided cells b lengths k)
+  where
+    go : Decided cells b lengths k (call cells b lengths k) → ForcedDone cells b k r (call cells b lengths k)
+    go (refuses n e) = let z : suc n ≡ 0 = ap (λ (o : Outcome). o .answer .number) (sym e) ∙ d in absurd (omega arith)
+    go (accepts l o z e) =
+        let opened = ended-open (value cells b k) (through b k) (ap (λ (x : Outcome). x .answer .number) (sym e) ∙ d) in
+        record {
+          stored =
+              ap (λ (x : Outcome). x .book .stored) e ∙ ap (λ (x : Book). x .stored) (ended-book _ (through b k)) ∙
+              forced-stored b k r s fc one opened;
+          value = ap (λ (x : Outcome). x .answer .value) e ∙ ap (λ (a : Answer). a .value) (ended-done _ (through b k) opened);
+        }
+
+-- what it leaves in each later log: its row
+pub record RowLasts (b : Book) (r : Row) (later : List Row) : Type 0 where
+  pub long : suc (length (rowsOf b)) ≤ length later
+  pub row : rowAt later (suc (length (rowsOf b))) ≡ r
+
+pub row-lasts : (b : Book) (r : Row) (later : List Row) → StartsWith (rowsOf b ++ (r ∷ [])) later → RowLasts b r later
+row-lasts b r later p = record {
+  long = let n = ap length is ∙ length-append (rowsOf b) (r ∷ p .0) in omega arith;
+  row =
+      ap (λ (l : List Row). rowAt l (suc (length (rowsOf b)))) is ∙
+      getD-at (rowsOf b) r (p .0) (Row.begin 0) (suc (length (rowsOf b)) - 1) (omega arith);
+}
+  where
+    is : later ≡ rowsOf b ++ (r ∷ p .0)
+    is = p .1 ∙ append-assoc (rowsOf b) (r ∷ []) (p .0)
+
+-- ── A commit ──────────────────────────────────────────────────────────────────────────────────────────────────────────
 
 -- 01: a commit answered done: its row is stored after all others, and its value is that row's number
 pub record CommitDone (b : Book) (v : ℕ) (o : Outcome) : Type 0 where
@@ -71,21 +110,10 @@ pub record CommitDone (b : Book) (v : ℕ) (o : Outcome) : Type 0 where
 
 pub commit-done : (cells : ℕ → ℤ) (b : Book) (lengths : Bool) (v : ℕ) → Sound b → call cells b lengths (Call.commit v) .answer .number ≡ 0
     → CommitDone b v (call cells b lengths (Call.commit v))
-commit-done cells b lengths v s d = go (decided cells b lengths (Call.commit v))
-  where
-    go : Decided cells b lengths (Call.commit v) (call cells b lengths (Call.commit v)) → CommitDone b v (call cells b lengths (Call.commit v))
-    go (refuses n e) = let z : suc n ≡ 0 = ap (λ (o : Outcome). o .answer .number) (sym e) ∙ d in absurd (omega arith)
-    go (accepts l o r e) =
-        let opened = ended-open (value cells b (Call.commit v)) (through b (Call.commit v)) (ap (λ (x : Outcome). x .answer .number) (sym e) ∙ d) in
-        record {
-          stored =
-              ap (λ (x : Outcome). x .book .stored) e ∙ ap (λ (x : Book). x .stored) (ended-book _ (through b (Call.commit v))) ∙
-              commit-stored b v s opened;
-          value = ap (λ (x : Outcome). x .answer .value) e ∙ ap (λ (a : Answer). a .value) (ended-done _ (through b (Call.commit v)) opened) ∙ number;
-        }
-      where
-        number : value cells b (Call.commit v) ≡ pos (suc (length (rowsOf b)))
-        number = unfold value adds in (ap pos (omega arith))
+unfolding adds value
+commit-done cells b lengths v s d =
+    let k = forced-done cells b lengths (Call.commit v) (Row.commit v) s refl refl d in
+    record { stored = k .stored; value = k .value ∙ ap pos (omega arith) }
 
 -- 01: what a commit leaves in each later log: its row, and in the sum each change that its visit then held
 pub record CommitLasts (b : Book) (v : ℕ) (later : List Row) : Type 0 where
@@ -100,18 +128,8 @@ commit-kept l v x m e = (m, or-l (eqb (x .holder) v) _ (eq-eqb (x .holder) v e))
 
 pub commit-lasts : (b : Book) (v : ℕ) (later : List Row) → StartsWith (rowsOf b ++ (Row.commit v ∷ [])) later → allowedLog later ≡ true
     → CommitLasts b v later
-commit-lasts b v later p al = record { long = long; row = row; sum = sum }
+commit-lasts b v later p al = let k = row-lasts b (Row.commit v) later p in record { long = k .long; row = k .row; sum = sum }
   where
-    is : later ≡ rowsOf b ++ (Row.commit v ∷ p .0)
-    is = p .1 ∙ append-assoc (rowsOf b) (Row.commit v ∷ []) (p .0)
-
-    long : suc (length (rowsOf b)) ≤ length later
-    long = let n = ap length is ∙ length-append (rowsOf b) (Row.commit v ∷ p .0) in omega arith
-
-    row : rowAt later (suc (length (rowsOf b))) ≡ Row.commit v
-    row = ap (λ (l : List Row). rowAt l (suc (length (rowsOf b)))) is ∙
-        getD-at (rowsOf b) (Row.commit v) (p .0) (Row.begin 0) (suc (length (rowsOf b)) - 1) (omega arith)
-
     sum : (x : Change) → Logged (rowsOf b) x → x .holder ≡ v → InSum later x
     sum x m h = kept-stays (rowsOf b ++ (Row.commit v ∷ [])) later x p al
         (subst (λ (l : Ledger). In x (l .changes) × (isKept l x ≡ true)) (sym (ledger-append (rowsOf b) (Row.commit v ∷ []))) (commit-kept (ledgerOf b) v x m h))

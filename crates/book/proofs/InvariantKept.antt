@@ -11,8 +11,8 @@ use borrow.Author.Tests.{eqb-true, ne-eqb, leb-true}
 use Rattle.book.specs.Lists.{In, keep, any, foldl, member, without}
 use Rattle.book.specs.Limits.{rowLimit, visitLimit}
 use Rattle.book.specs.Rows.{Row, begin, change, handOver, undo, commit, abort, isCell, isAmount, fits}
-use Rattle.book.specs.Ledger.{Change, Ledger, empty, pass, only, after, ledger}
-use Rattle.book.specs.Rules.{isActive, bearsUndo, isUndone, isOpenChange, openChanges, just, reserve, free, room, lawful, withinLimits, allowed, allAllowed, allowedLog}
+use Rattle.book.specs.Ledger.{Change, Ledger, empty, pass, only, handed, after, ledger}
+use Rattle.book.specs.Rules.{isActive, bearsUndo, isUndone, isOpenChange, openChanges, just, reserve, free, room, mayHandOver, lawful, withinLimits, allowed, allAllowed, allowedLog}
 use Rattle.book.specs.Cells.{isKept}
 use Rattle.book.proofs.Lists.{clash, not-is, and-l, and-r, and-i, or-l, or-r, eqb-sym, in-cons, keep-in, keep-same, keep-map, any-false, length-keep, stays, stays-in, stays-out, goes, length-without}
 use Rattle.book.proofs.Invariant.{Good, Ended, Inv, fresh, sinking-keep, pass-cases, falling-pass}
@@ -102,16 +102,16 @@ inv-change l v c a e i =
       space = rw (act, fresh l i) (omega arith);
     }
 
-inv-handOver : (l : Ledger) (g r c : ℕ) → allowed l (handOver g r c) ≡ true → Inv l → Inv (after l (handOver g r c))
-unfolding after allowed lawful withinLimits reserve
-inv-handOver l g r c e i =
+inv-handed : (l : Ledger) (g r : ℕ) (cs : ℕ → Bool) → (mayHandOver l g r cs && room l 1) ≡ true → Inv l → Inv (handed l g r cs)
+unfolding reserve
+inv-handed l g r cs e i =
     let actg : isActive l g ≡ true = search (and-l, and-r) depth 8 in
     let actr : isActive l r ≡ true = search (and-l, and-r) depth 8 in
     let clean : not (bearsUndo l g) ≡ true = search (and-l, and-r) depth 8 in
     let rm : room l 1 ≡ true = search (and-l, and-r) depth 8 in
     let le = leb-true (reserve l + 1) (free l) rm in
-    let passed : (x : Change) → In x (l .changes) → Good (after l (handOver g r c)) (pass g r (only c) x) =
-    λ x m. let d = i .good x m in pass-cases (Good (after l (handOver g r c))) g r (only c) x
+    let passed : (x : Change) → In x (l .changes) → Good (handed l g r cs) (pass g r cs x) =
+    λ x m. let d = i .good x m in pass-cases (Good (handed l g r cs)) g r cs x
     (λ q. record {
       row = let k = d .row in omega arith;
       low = d .low;
@@ -122,11 +122,11 @@ inv-handOver l g r c e i =
       fate = rw actr;
     })
     (record { row = let k = d .row in omega arith; low = d .low; held = d .held; first = d .first; fit = d .fit; bears = d .bears; fate = d .fate }) in
-    let same : length (keep (isOpenChange l) (map (pass g r (only c)) (l .changes))) ≡ length (openChanges l) =
-    ap length (keep-map (isOpenChange l) (pass g r (only c)) (l .changes)) ∙
-    length-map (keep (λ x. isOpenChange l (pass g r (only c) x)) (l .changes)) (pass g r (only c)) ∙
+    let same : length (keep (isOpenChange l) (map (pass g r cs) (l .changes))) ≡ length (openChanges l) =
+    ap length (keep-map (isOpenChange l) (pass g r cs) (l .changes)) ∙
+    length-map (keep (λ x. isOpenChange l (pass g r cs x)) (l .changes)) (pass g r cs) ∙
     ap length (keep-same _ _ (l .changes) (λ x m.
-    pass-cases (λ (z : Change). isOpenChange l z ≡ isOpenChange l x) g r (only c) x (λ q. rw (q, actg, actr)) refl)) in
+    pass-cases (λ (z : Change). isOpenChange l z ≡ isOpenChange l x) g r cs x (λ q. rw (q, actg, actr)) refl)) in
     record {
       old = i .old;
       first = i .first;
@@ -136,8 +136,8 @@ inv-handOver l g r c e i =
       borne = i .borne;
       ended = λ u h. let d = i .ended u h in record { old = d .old; over = d .over; clean = d .clean };
       named = λ n h. let d = i .named n h in omega arith;
-      good = λ y m. let k = Memᴰ·of-map (pass g r (only c)) (l .changes) m in rw (← k .2) (passed (k .0) (k .1));
-      falling = falling-pass g r (only c) (l .changes) (i .falling);
+      good = λ y m. let k = Memᴰ·of-map (pass g r cs) (l .changes) m in rw (← k .2) (passed (k .0) (k .1));
+      falling = falling-pass g r cs (l .changes) (i .falling);
       space = rw same (omega arith);
     }
 
@@ -232,9 +232,10 @@ inv-abort l v e i =
 
 -- one allowed row more keeps the invariant
 pub inv-after : (l : Ledger) (r : Row) → allowed l r ≡ true → Inv l → Inv (after l r)
+unfolding after allowed lawful withinLimits
 inv-after l (begin v) = inv-begin l v
 inv-after l (change v c a) = inv-change l v c a
-inv-after l (handOver g r c) = inv-handOver l g r c
+inv-after l (handOver g r c) = λ e. inv-handed l g r (only c) (search (and-l, and-r, and-i))
 inv-after l (undo h c n a) = inv-undo l h c n a
 inv-after l (commit v) = inv-commit l v
 inv-after l (abort v) = inv-abort l v

@@ -4,7 +4,7 @@ use native.Mathlib.Omega.{arith}
 use mathlib.Core.Path.{_≡_, refl, ap, sym, _∙_, subst}
 use mathlib.Core.Bool.{Bool, true, false}
 use mathlib.Core.Logic.{_⊎_, inl, inr}
-use mathlib.Core.List.{List, [], _∷_, _++_, append-assoc, append-nil, Memᴰ·map, Memᴰ·of-map, List·Memᴰ·not-nil, List·Memᴰ·cases-cons}
+use mathlib.Core.List.{List, [], _∷_, _++_, map, append-assoc, append-nil, Memᴰ·map, Memᴰ·of-map, List·Memᴰ·not-nil, List·Memᴰ·cases-cons}
 use lib.ListN.{length, getD, length-append, List·getD-append}
 use lib.Seq.{getD-append-seam}
 use lib.IntN.{ℤ}
@@ -38,6 +38,11 @@ data From (l : Ledger) (r : Row) (y : Change) : Type 0 where
   old : (x : Change) → In x (l .changes) → SameChange x y → From l r y
   new : (v c : ℕ) (a : ℤ) → r ≡ change v c a → y ≡ newChange l v c a → From l r y
 
+passed-from : (l : Ledger) (row : Row) (g r : ℕ) (cs : ℕ → Bool) (y : Change) → In y (map (pass g r cs) (l .changes)) → From l row y
+passed-from l row g r cs y m =
+    let k = Memᴰ·of-map (pass g r cs) (l .changes) m in
+    old (k .0) (k .1) (subst (λ (z : Change). SameChange (k .0) z) (k .2) (same-pass g r cs (k .0)))
+
 from : (l : Ledger) (r : Row) (y : Change) → In y (after l r .changes) → From l r y
 unfolding after
 from l (begin v) y m = old y m (same-refl y)
@@ -46,9 +51,7 @@ from l (change v c a) y m = go (List·Memᴰ·cases-cons m)
     go : (y ≡ newChange l v c a) ⊎ In y (l .changes) → From l (change v c a) y
     go (inl e) = new v c a refl e
     go (inr n) = old y n (same-refl y)
-from l (handOver g r c) y m =
-    let k = Memᴰ·of-map (pass g r (only c)) (l .changes) m in
-    old (k .0) (k .1) (subst (λ (z : Change). SameChange (k .0) z) (k .2) (same-pass g r (only c) (k .0)))
+from l (handOver g r c) y m = passed-from l (handOver g r c) g r (only c) y m
 from l (undo h c n a) y m = old y m (same-refl y)
 from l (commit v) y m = old y m (same-refl y)
 from l (abort v) y m = old y m (same-refl y)

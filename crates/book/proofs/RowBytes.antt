@@ -11,6 +11,7 @@ use lib.IntN.{ℤ, pos, negsuc}
 use lib.Dec.{eqb, leb}
 use borrow.Author.Tests.{eqb-true, eq-eqb, leb-true}
 use Rattle.book.specs.Lists.{eqBytes, tabulate}
+use Rattle.book.specs.Limits.{visitLimit, kindLimit}
 use Rattle.book.specs.Rows.{Row, isVisit, isCell, isAmount, isRowNumber, fits}
 use Rattle.book.specs.Numbers.{le, number, bitsOf, signed}
 use Rattle.book.specs.RowBytes.{kindOf, mayBeSet, mayBe, rowBytes, rowOfKind, rowOf, isRowBytes}
@@ -51,7 +52,7 @@ row-kind n (Row.undo h c u a) t = refl
 row-kind n (Row.commit v) t = refl
 row-kind n (Row.abort v) t = refl
 
-pub kind-known : (r : Row) → (1 ≤ kindOf r) × (kindOf r ≤ 6)
+pub kind-known : (r : Row) → (1 ≤ kindOf r) × (kindOf r ≤ kindLimit)
 kind-known (Row.begin v) = omega arith
 kind-known (Row.change v c a) = omega arith
 kind-known (Row.handOver g r c) = omega arith
@@ -95,11 +96,11 @@ pub row-exact : (n : ℕ) (bs : List ℕ) → isRowBytes n bs ≡ true → bs �
 row-exact n bs e = sym (eqBytes-true (rowBytes n (rowOf bs)) bs e)
 
 -- the outermost fields: the lowest and the highest change, the last visit, cell and row
-lowest-back : rowOf (rowBytes 4096 (Row.undo 255 223 4095 (negsuc 32767))) ≡ Row.undo 255 223 4095 (negsuc 32767)
+lowest-back : rowOf (rowBytes 4096 (Row.undo visitLimit 223 4095 (negsuc 32767))) ≡ Row.undo visitLimit 223 4095 (negsuc 32767)
 unfolding rowBytes
 lowest-back = refl
 
-highest-back : rowOf (rowBytes 4096 (Row.change 255 223 (pos 32767))) ≡ Row.change 255 223 (pos 32767)
+highest-back : rowOf (rowBytes 4096 (Row.change visitLimit 223 (pos 32767))) ≡ Row.change visitLimit 223 (pos 32767)
 unfolding rowBytes
 highest-back = refl
 
@@ -142,7 +143,7 @@ bytes-by-table n r = zero-at (getD mayBeSet (kindOf r) []) (rowBytes n r) (line 
 -- What a reader tests of 16 bytes: a known kind, the own number, and zero where the table says so.
 pub record ByTable (n : ℕ) (bs : List ℕ) : Type 0 where
   pub from : 1 ≤ getD bs 0 0
-  pub to : getD bs 0 0 ≤ 6
+  pub to : getD bs 0 0 ≤ kindLimit
   pub own : number 2 bs 4 ≡ n
   pub zeros : (i : ℕ) → i < 16 → mayBe (getD bs 0 0) i ≡ 0 → getD bs i 0 ≡ 0
 
@@ -213,7 +214,7 @@ table-bytes n bs long byte t =
     c : number 1 bs 3 ≡ b 3
     c = add-zero (b 3)
 
-    go : (k : ℕ) → k ≡ b 0 → 1 ≤ k → k ≤ 6 → Zeros k
+    go : (k : ℕ) → k ≡ b 0 → 1 ≤ k → k ≤ kindLimit → Zeros k
         → rowBytes n (rowOfKind (k + 256 * 0) (number 1 bs 1) (number 1 bs 2) (number 1 bs 3) (number 2 bs 6) (signed 16 (number 2 bs 8))) ≡
         tabulate 16 0 b
     go zero e l h z = absurd (omega arith)

@@ -9,7 +9,7 @@ use lib.Dec.{leb, ltb, eqb}
 use Rattle.book.specs.Lists.{keep, times}
 use Rattle.book.specs.Limits.{visitLimit, activeLimit, pageLimit}
 use Rattle.book.specs.Rows.{Row, isCell}
-use Rattle.book.specs.Ledger.{Change, Ledger, ledger}
+use Rattle.book.specs.Ledger.{Change, Ledger, ledger, only}
 use Rattle.book.specs.Rules.{isActive, openHeld, just, room, scopeFits, holdsAny}
 use Rattle.book.specs.Cells.{applied, lastOn}
 use Rattle.book.specs.Calls.{Call, Ending, waits, forces, flushes, ending, Return, theVisit, theRow, theCell, zeroValue, returns}
@@ -50,7 +50,7 @@ refusal b (Call.change v c a) =
     (9, not (isActive l v)) else (10, not (isCell c)) else (11, not (scopeFits l v c)) else (8, not (room l 2)) else 0
 refusal b (Call.handOver g r c) =
     let l = ledgerOf b in
-    (9, not (isActive l g)) else (9, not (isActive l r)) else (12, eqb g r) else (10, not (isCell c)) else (13, not (holdsAny l g c)) else
+    (9, not (isActive l g)) else (9, not (isActive l r)) else (12, eqb g r) else (10, not (isCell c)) else (13, not (holdsAny l g (only c))) else
     (8, not (room l 1)) else 0
 refusal b (Call.commit v) = (9, not (isActive (ledgerOf b) v)) else 0
 refusal b (Call.abort v) = (9, not (isActive (ledgerOf b) v)) else 0

@@ -64,6 +64,10 @@ newChange l v c a = record {
 abbrev pub only : ℕ → ℕ → Bool
 only c k = eqb k c
 
+-- the set of all cells
+abbrev pub every : ℕ → Bool
+every k = true
+
 -- the visit holds the change, and its cell is of the set
 abbrev pub holds : ℕ → (ℕ → Bool) → Change → Bool
 holds v cs x = eqb (x .holder) v && cs (x .cell)
@@ -136,6 +140,18 @@ after l r = record {
   undoing = undoingAfter (l .undoing) r;
   undone = undoneAfter (l .undone) r;
   changes = changesAfter l r;
+}
+
+-- the ledger after a hand-over of a set of cells
+abbrev pub handed : Ledger → ℕ → ℕ → (ℕ → Bool) → Ledger
+handed l g r cs = record {
+  rows = suc (l .rows);
+  begun = l .begun;
+  active = l .active;
+  committed = l .committed;
+  undoing = l .undoing;
+  undone = l .undone;
+  changes = map (pass g r cs) (l .changes);
 }
 
 -- what the rows come to, from the first on

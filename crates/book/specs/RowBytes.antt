@@ -46,7 +46,7 @@ rowBytes n (Row.undo h c u a) = fields 4 h 0 c n u a
 rowBytes n (Row.commit v) = fields 5 v 0 0 n 0 (pos 0)
 rowBytes n (Row.abort v) = fields 6 v 0 0 n 0 (pos 0)
 
--- the row of a kind with these fields; of no such kind any row will do, since `areBytesOf` compares the bytes
+-- the row of a kind with these fields; of no such kind any row will do, since `isRowBytes` compares the bytes
 abbrev pub rowOfKind : ℕ → ℕ → ℕ → ℕ → ℕ → ℤ → Row
 rowOfKind zero v r c u a = Row.begin 0
 rowOfKind (suc zero) v r c u a = Row.begin v

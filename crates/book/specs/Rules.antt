@@ -64,9 +64,13 @@ scopesInUse l = length (keep (startsInUse l) (l .changes))
 abbrev pub scopeFits : Ledger → ℕ → ℕ → Bool
 scopeFits l v c = not (startsScope l v c) || ltb (scopesInUse l) scopeLimit
 
--- the visit holds a change of the cell
-abbrev pub holdsAny : Ledger → ℕ → ℕ → Bool
-holdsAny l v c = any (holds v (only c)) (l .changes)
+-- the visit holds a change of a cell of the set
+abbrev pub holdsAny : Ledger → ℕ → (ℕ → Bool) → Bool
+holdsAny l v cs = any (holds v cs) (l .changes)
+
+-- giver and receiver are two active visits that no undo row bears, and the giver holds a change of a cell of the set
+abbrev pub mayHandOver : Ledger → ℕ → ℕ → (ℕ → Bool) → Bool
+mayHandOver l g r cs = not (eqb g r) && isActive l g && isActive l r && not (bearsUndo l g) && not (bearsUndo l r) && holdsAny l g cs
 
 -- the list's first change has this row number, cell and amount
 abbrev pub isFirst : List Change → ℕ → ℕ → ℤ → Bool
@@ -79,7 +83,7 @@ isFirst (x ∷ xs) n c a = eqb (x .row) n && eqb (x .cell) c && eqZ (x .amount) 
 unfoldable pub lawful : Ledger → Row → Bool
 lawful l (begin v) = eqb v (suc (l .begun))
 lawful l (change v c a) = isActive l v && not (bearsUndo l v)
-lawful l (handOver g r c) = not (eqb g r) && isActive l g && isActive l r && not (bearsUndo l g) && not (bearsUndo l r) && holdsAny l g c
+lawful l (handOver g r c) = mayHandOver l g r (only c)
 lawful l (undo h c n a) = isFirst (openHeld (just h) l) n c a
 lawful l (commit v) = isActive l v && not (bearsUndo l v)
 lawful l (abort v) = isActive l v && not (any (λ x. just v (x .holder)) (openChanges l))
