@@ -8,6 +8,7 @@ use native.Mathlib.Nat.{zero-add, add-zero, add-suc, suc-add, le-of-suc-le-suc, 
 use lib.ListN.{length, getD}
 use lib.Dec.{eqb}
 use borrow.Author.Tests.{eqb-true, eqb-false, eq-eqb}
+use Rattle.book.specs.Limits.{kindLimit}
 use Rattle.book.specs.Numbers.{number}
 use Rattle.book.specs.RowBytes.{mayBe, isRowBytes}
 use Rattle.book.proofs.Lists.{and-l, and-r, and-i, clash, is-false}
@@ -58,14 +59,14 @@ module _ (n : ℕ) (b : List ℕ) (below : n < 65536) where
   pub kind-zero : getD b 0 0 ≡ 0 → isRowBytes n b ≡ false
   kind-zero e = is-false _ (λ t. let k = by-table n b below t .from in omega arith)
 
-  pub kind-unknown : 6 < getD b 0 0 → isRowBytes n b ≡ false
+  pub kind-unknown : kindLimit < getD b 0 0 → isRowBytes n b ≡ false
   kind-unknown h = is-false _ (λ t. let k = by-table n b below t .to in omega arith)
 
   pub not-as-table : asTable 16 0 (getD b 0 0) b ≡ false → isRowBytes n b ≡ false
   not-as-table e =
       is-false _ (λ t. clash _ (passes 16 0 (getD b 0 0) b (λ j h. rw (zero-add j) (by-table n b below t .zeros j h))) e)
 
-  pub own-number : length b ≡ 16 → ((i : ℕ) → getD b i 0 < 256) → (getD b 0 0 ≡ 0 → ⊥) → getD b 0 0 ≤ 6
+  pub own-number : length b ≡ 16 → ((i : ℕ) → getD b i 0 < 256) → (getD b 0 0 ≡ 0 → ⊥) → getD b 0 0 ≤ kindLimit
       → asTable 16 0 (getD b 0 0) b ≡ true → eqb (getD b 4 0 + 256 * getD b 5 0) n ≡ isRowBytes n b
   own-number long byte from to e = go (eqb (getD b 4 0 + 256 * getD b 5 0) n) refl
     where

@@ -5,6 +5,7 @@ use Prim.Native.Nat.{ℕ, _%_}
 use native.Mathlib.Omega.{arith}
 use lib.Dec.{leb}
 use borrow.Author.Tests.{leb-true}
+use Rattle.book.specs.Limits.{visitLimit}
 use Rattle.book.specs.Rows as book
 use Rattle.book.specs.Rows.{isVisit, isCell, isRowNumber, fits}
 use Rattle.book.proofs.Lists.{and-l, and-r}
@@ -38,7 +39,7 @@ effect-meant (Abort v) = refl
 
 -- a visit in its range has one byte
 one-byte : (v : ℕ) → isVisit v ≡ true → v % 256 ≡ v
-one-byte v e = let k = leb-true v 255 (and-r (leb 1 v) _ e) in omega arith
+one-byte v e = let k = leb-true v visitLimit (and-r (leb 1 v) _ e) in omega arith
 
 -- so the writer cuts nothing off a row that fits
 pub narrowed-fits : (r : book.Row) → fits r ≡ true → narrowed r ≡ r

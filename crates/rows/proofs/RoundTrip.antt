@@ -1,6 +1,6 @@
 -- The round trip: what a row's bytes are read as, and what the bytes of a row that was read are. Assumes nothing.
 use mathlib.Core.Path.{_≡_, refl, ap, sym, _∙_}
-use mathlib.Core.Bool.{Bool, true, false, cond, _&&_}
+use mathlib.Core.Bool.{Bool, true, false, cond}
 use mathlib.Core.List.{List, [], append-nil}
 use Prim.Native.Nat.{ℕ, _≤_}
 use native.Mathlib.Omega.{arith}
@@ -9,10 +9,10 @@ use lib.IntN.{pos, negsuc}
 use Rattle.book.specs.Rows as book
 use Rattle.book.specs.Rows.{isVisit, isCell, fits}
 use Rattle.book.specs.RowBytes.{kindOf, rowBytes, rowOf, isRowBytes}
-use Rattle.book.proofs.Lists.{and-i, and-l, and-r, is-false}
+use Rattle.book.proofs.Lists.{and-i, is-false}
 use Rattle.book.proofs.RowBytes.{eqBytes-true, row-kind, kind-known, row-back, row-bytes, row-exact}
 use Rattle.rows.specs.Meaning.{meant, coded, narrowed}
-use Rattle.rows.specs.Reading.{isBlank, readOf}
+use Rattle.rows.specs.Reading.{isBlank, readBy, readOf}
 use Rattle.rows.specs.declared.Row.{Row}
 use Rattle.rows.specs.declared.Read.the-variants.{Valid, Blank, Malformed}
 use Rattle.rows.proofs.Meanings.{meant-coded, coded-meant, narrowed-fits}
@@ -50,7 +50,7 @@ read-zero n bs z e = rw (e, zero-not-row n bs z)
 
 -- another kind
 pub read-kind : (n : ℕ) (bs : List ℕ) → 1 ≤ getD bs 0 0
-    → readOf n bs ≡ cond (isRowBytes n bs && fits (rowOf bs)) (Valid (coded (rowOf bs))) Malformed
+    → readOf n bs ≡ readBy (isRowBytes n bs) (fits (rowOf bs)) bs
 unfolding readOf
 read-kind n bs h = rw (not-blank bs h)
 
@@ -74,19 +74,19 @@ pub record IsRow (n : ℕ) (bs : List ℕ) (r : Row) : Type 0 where
 -- bytes that are read as a row are the bytes of that row
 pub written-read : (n : ℕ) (bs : List ℕ) (r : Row) → readOf n bs ≡ Valid r → IsRow n bs r
 unfolding readOf
-written-read n bs r e = go (isBlank bs) (isRowBytes n bs && fits (rowOf bs)) refl e
+written-read n bs r e = go (isBlank bs) (isRowBytes n bs) (fits (rowOf bs)) refl refl e
   where
-    go : (s t : Bool) → (isRowBytes n bs && fits (rowOf bs)) ≡ t
-        → cond s Blank (cond t (Valid (coded (rowOf bs))) Malformed) ≡ Valid r → IsRow n bs r
-    go true t q f = let z : _≡_ {A = ℕ} 0 1 = cc in absurd (omega arith)
-    go false true q f =
+    go : (s t u : Bool) → isRowBytes n bs ≡ t → fits (rowOf bs) ≡ u → cond s Blank (readBy t u bs) ≡ Valid r → IsRow n bs r
+    go true t u p q f = let z : _≡_ {A = ℕ} 0 1 = cc in absurd (omega arith)
+    go false true true p q f =
         let is : coded (rowOf bs) ≡ r = cc in
         let same : rowOf bs ≡ meant r = sym (meant-coded (rowOf bs)) ∙ ap meant is in
         record {
-          bytes = row-exact n bs (and-l _ (fits (rowOf bs)) q) ∙ ap (rowBytes n) same;
-          fit = ap fits (sym same) ∙ and-r (isRowBytes n bs) _ q;
+          bytes = row-exact n bs p ∙ ap (rowBytes n) same;
+          fit = ap fits (sym same) ∙ q;
         }
-    go false false q f = let z : _≡_ {A = ℕ} 0 1 = cc in absurd (omega arith)
+    go false true false p q f = let z : _≡_ {A = ℕ} 0 1 = cc in absurd (omega arith)
+    go false false u p q f = let z : _≡_ {A = ℕ} 0 1 = cc in absurd (omega arith)
 
 -- ── The outermost changes come back exactly ───────────────────────────────────────────────────────────────────────────
 

@@ -1,9 +1,10 @@
 -- What the writer's fill leaves of a row's fields is the row's bytes. Assumes nothing.
 use mathlib.Core.Path.{_≡_, refl, ap, _∙_}
 use mathlib.Core.List.{List, [], _∷_}
-use Prim.Native.Nat.{ℕ, _<_}
+use Prim.Native.Nat.{ℕ, _≤_}
+use native.Mathlib.Omega.{arith}
 use lib.ListN.{length, getD}
-use lib.Dec.{lit<}
+use Rattle.book.specs.Limits.{kindLimit}
 use Rattle.book.specs.RowBytes.{mayBe, rowBytes}
 use Rattle.rows.specs.Meaning.{meant, narrowed}
 use Rattle.rows.specs.Table.{masked, fill}
@@ -12,13 +13,13 @@ use Rattle.rows.specs.declared.Row.{Row}
 use Rattle.rows.specs.declared.Row.the-variants.{Begin, Change, HandOver, Undo, Commit, Abort}
 use Rattle.rows.proofs.Sixteen.{sixteen}
 
-pub kind-below : (r : Row) → fieldsOf r .kind < 7
-kind-below (Begin v) = lit< tt
-kind-below (Change v c a) = lit< tt
-kind-below (HandOver g r c) = lit< tt
-kind-below (Undo h c n a) = lit< tt
-kind-below (Commit v) = lit< tt
-kind-below (Abort v) = lit< tt
+pub kind-known : (r : Row) → fieldsOf r .kind ≤ kindLimit
+kind-known (Begin v) = omega arith
+kind-known (Change v c a) = omega arith
+kind-known (HandOver g r c) = omega arith
+kind-known (Undo h c n a) = omega arith
+kind-known (Commit v) = omega arith
+kind-known (Abort v) = omega arith
 
 -- a fill of all 16 bytes leaves nothing of what was there
 abbrev all : ℕ → List ℕ → List ℕ

@@ -29,11 +29,16 @@ pub enum Row {
     Abort(Visit),
 }
 
-// What 16 bytes are read as: a row whose bytes and fields are as 01's table has them, 16 zeros, or neither.
+// What 16 bytes are read as.
 pub enum Read {
+    // a row whose bytes and fields are as 01's table has them
     Valid(Row),
+    // 16 zeros
     Blank,
+    // no row's bytes: kind, zero bytes or own number are wrong
     Malformed,
+    // a row's bytes, with a visit, cell or undone row that is out of its range
+    OutOfRange,
 }
 
 // What a row does to the charts.

@@ -15,6 +15,7 @@ use crate::numbers::signed;
 use crate::numbers::wide;
 use crate::numbers::word;
 use crate::ranges::in_range;
+use crate::table::KIND_LIMIT;
 use crate::table::is_as_table;
 
 // All 16 bytes are zero.
@@ -34,7 +35,7 @@ pub fn has_row_bytes(b: &[u8], n: Lsn) -> bool
     if kind == 0 {
         return false;
     }
-    if 6 < kind {
+    if KIND_LIMIT < kind {
         return false;
     }
     if is_as_table(b, kind) {
@@ -75,6 +76,7 @@ pub fn read_row(b: &[u8], n: Lsn) -> Read
         if in_range(row) {
             return Read::Valid(row);
         }
+        return Read::OutOfRange;
     }
     Read::Malformed
 }

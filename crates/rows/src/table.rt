@@ -1,14 +1,18 @@
 // 01's constant table: for each kind of row and each of its 16 bytes, whether the byte may be other than zero.
 // The reader tests bytes by it, the writer sets them by it.
 ghost use mathlib.Core.Path.{_≡_};
-ghost use Prim.Native.Nat.{_<_};
+ghost use Prim.Native.Nat.{_≤_};
 ghost use lib.ListN.{length, getD};
 ghost use mathlib.Core.List.{[]};
+ghost use Rattle.book.specs.Limits.{kindLimit};
 ghost use Rattle.book.specs.RowBytes.{mayBeSet};
 ghost use Rattle.rows.specs.Table.{asTable, okByte, masked, fill};
 
+// The greatest kind of a row.
+pub(crate) const KIND_LIMIT: usize = 6;
+
 // Kind 0 is a blank row.
-const MAY_BE: [[u8; 16]; 7] = [
+const MAY_BE: [[u8; 16]; KIND_LIMIT + 1] = [
     [0, 0, 0, 0, 0, 0, 0, 0, 0, 0, 0, 0, 0, 0, 0, 0],
     [1, 1, 0, 0, 1, 1, 0, 0, 0, 0, 0, 0, 0, 0, 0, 0],
     [1, 1, 0, 1, 1, 1, 0, 0, 1, 1, 0, 0, 0, 0, 0, 0],
@@ -20,7 +24,7 @@ const MAY_BE: [[u8; 16]; 7] = [
 
 // The table's line of a kind.
 fn line_of(kind: usize) -> [u8; 16]
-    requires { ⌜ kind < 7 ⌝ }
+    requires { ⌜ kind ≤ kindLimit ⌝ }
     ensures { λ r. ⌜ r ≡ getD mayBeSet kind [] ⌝ }
 {
     MAY_BE[kind]
@@ -43,7 +47,7 @@ fn byte_or_zero(m: u8, x: u8) -> u8
 // Each byte that is to be zero in a row of kind `kind` is zero. The others are counted, with no way out of the loop before its end: so it compiles to a few
 // instructions for all 16 bytes, and an opening goes over the whole log by it.
 pub(crate) fn is_as_table(b: &[u8], kind: usize) -> bool
-    requires { ⌜ (kind < 7) × (length (now b) ≡ 16) ⌝ }
+    requires { ⌜ (kind ≤ kindLimit) × (length (now b) ≡ 16) ⌝ }
     ensures { λ r. ⌜ r ≡ asTable 16 0 kind (now (b .entry)) ⌝ }
 {
     let line = line_of(kind);
@@ -60,7 +64,7 @@ pub(crate) fn is_as_table(b: &[u8], kind: usize) -> bool
 
 // Sets b to the bytes of `f` that a row of kind `kind` may have, and zeros.
 pub(crate) fn put_by_table(b: &mut [u8], kind: usize, f: &[u8; 16])
-    requires { ⌜ (kind < 7) × (length (now b) ≡ 16) ⌝ }
+    requires { ⌜ (kind ≤ kindLimit) × (length (now b) ≡ 16) ⌝ }
     ensures { λ _. ⌜ now (b .exit) ≡ fill 16 0 kind (now (f .entry)) (now (b .entry)) ⌝ }
 {
     let line = line_of(kind);

@@ -1,7 +1,8 @@
 // The writer of a row: its 16 bytes, the fields at their places, set by the table of kinds and bytes.
 ghost use mathlib.Core.Path.{_≡_};
-ghost use Prim.Native.Nat.{_<_};
+ghost use Prim.Native.Nat.{_≤_};
 ghost use lib.ListN.{length};
+ghost use Rattle.book.specs.Limits.{kindLimit};
 ghost use Rattle.book.specs.RowBytes.{rowBytes};
 ghost use Rattle.rows.specs.Meaning.{meant, narrowed};
 ghost use Rattle.rows.specs.Table.{fill};
@@ -80,7 +81,7 @@ fn parts_of(row: Row) -> Fields
 
 // The fields of row n at their places, of which the table keeps those that the kind has. Visits have one byte: their low one.
 fn put(b: &mut [u8], f: Fields, n: Lsn)
-    requires { ⌜ (f .kind < 7) × (length (now b) ≡ 16) ⌝ }
+    requires { ⌜ (f .kind ≤ kindLimit) × (length (now b) ≡ 16) ⌝ }
     ensures { λ _. ⌜ now (b .exit) ≡ fill 16 0 (f .kind) (fieldBytes f (n .0)) (now (b .entry)) ⌝ }
 {
     let a = [

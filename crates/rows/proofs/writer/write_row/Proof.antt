@@ -1,5 +1,5 @@
 -- `rows::writer::write_row` meets its contract. Assumes nothing.
-use Rattle.rows.proofs.Written.{kind-below, written}
+use Rattle.rows.proofs.Written.{kind-known, written}
 use borrow.Author.Needs.{needs}
 use Rattle.rows.proofs.writer.write_row.Statement.{statement}
 use Rattle.rows.proofs.writer.write_row.Tie as tie
@@ -8,7 +8,7 @@ parts-of-requires : tie.Need-parts-of-requires
 parts-of-requires c κs = search needs
 
 put-requires : tie.Need-put-requires
-put-requires c κs = let s = c .before .before .before in rw (c .parts-of .ensures) (kind-below (s .args .row), s .pre)
+put-requires c κs = let s = c .before .before .before in rw (c .parts-of .ensures) (kind-known (s .args .row), s .pre)
 
 same-length : tie.Need-same-length
 same-length c = search needs
