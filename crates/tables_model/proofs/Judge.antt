@@ -14,6 +14,7 @@ use Rattle.book.specs.Limits.{rowLimit, activeLimit, scopeLimit}
 use Rattle.book.specs.Rows.{Row, begin, change, handOver, undo, commit, abort, undoneBy, fits}
 use Rattle.book.specs.Ledger.{Change, Ledger, only, holds, ledger}
 use Rattle.book.specs.Rules.{isActive, bearsUndo, openChanges, openHeld, just, room, startsInUse, scopeFits, holdsAny, isFirst, lawful, withinLimits, allowed, allowedLog}
+use Rattle.book.specs.Rules as book
 use Rattle.book.specs.Scopes.{unused, firstRow, entryOf, scopesOf}
 use Rattle.book.specs.Pages.{rowAt}
 use Rattle.book.proofs.Lists.{and-i, and-l, and-r, here, in-keep, keep-in, any-none}
@@ -27,7 +28,7 @@ use Rattle.tables_model.specs.declared.Found.{Found}
 use Rattle.tables_model.specs.declared.Verdict.the-variants.{Allowed, Unlawful, OverLimit}
 use Rattle.tables_model.specs.Visits.{isListed, isBearing}
 use Rattle.tables_model.specs.Table.{isHeld, holdsCell, lastAt}
-use Rattle.tables_model.specs.Rows.{roomBy, highestOf, growsBy, holdsBy, isChange, lawfulBy, withinLimitsBy, judgeBy}
+use Rattle.tables_model.specs.Rows.{roomBy, highestOf, growsBy, holdsBy, isChange, mayHandOver, lawfulBy, withinLimitsBy, judgeBy}
 use Rattle.tables_model.specs.Meaning.{tablesOf, scopeTable, indexOf}
 use Rattle.tables_model.proofs.Reversed.{any-reverse}
 use Rattle.tables_model.proofs.Padded.{take-pad}
@@ -39,25 +40,25 @@ use Rattle.tables_model.proofs.Undoing.{used-is, nothing-open, highest-
 
 -- ── Holders ───────────────────────────────────────────────────────────────────────────────────────────────────────────
 
--- an active visit holds changes of the cell exactly when an entry says so
-pub holds-by : (l : Ledger) (v c : ℕ) → Scoped (l .changes) → isActive l v ≡ true → holdsBy (indexOf l) v c ≡ holdsAny l v c
+-- an active visit holds changes of these cells exactly when an entry says so
+pub holds-by : (l : Ledger) (v : ℕ) (cs : ℕ → Bool) → Scoped (l .changes) → isActive l v ≡ true → holdsBy (indexOf l) v cs ≡ holdsAny l v cs
 unfolding holdsCell tablesOf scopeTable scopesOf
-holds-by l v c S act =
-    ap (any (isHeld v c)) (take-pad scopeLimit unused (scopesOf l)) ∙ any-reverse (isHeld v c) (scopesOf l) ∙ any-map (isHeld v c) (entryOf l) (starts l) ∙
+holds-by l v cs S act =
+    ap (any (isHeld v cs)) (take-pad scopeLimit unused (scopesOf l)) ∙ any-reverse (isHeld v cs) (scopesOf l) ∙ any-map (isHeld v cs) (entryOf l) (starts l) ∙
     both-ways _ _ there back
   where
-    there : any (holds v (only c)) (starts l) ≡ true → holdsAny l v c ≡ true
-    there e = let k = any-some (holds v (only c)) (starts l) e in any-in (holds v (only c)) (in-use l (k .0) (k .1) .mem) (k .2)
+    there : any (holds v cs) (starts l) ≡ true → holdsAny l v cs ≡ true
+    there e = let k = any-some (holds v cs) (starts l) e in any-in (holds v cs) (in-use l (k .0) (k .1) .mem) (k .2)
 
-    back : holdsAny l v c ≡ true → any (holds v (only c)) (starts l) ≡ true
+    back : holdsAny l v cs ≡ true → any (holds v cs) (starts l) ≡ true
     back e =
-        let k = any-some (holds v (only c)) (l .changes) e in
+        let k = any-some (holds v cs) (l .changes) e in
         let d = S .started (k .0) (k .1) in
-        let holder = d .holder ∙ eqb-true (k .0 .holder) v (and-l _ (eqb (k .0 .cell) c) (k .2)) in
-        let cell = d .cell ∙ eqb-true (k .0 .cell) c (and-r (eqb (k .0 .holder) v) _ (k .2)) in
-        any-in (holds v (only c))
+        let holder = d .holder ∙ eqb-true (k .0 .holder) v (and-l _ (cs (k .0 .cell)) (k .2)) in
+        let cell = ap cs (d .cell) ∙ and-r (eqb (k .0 .holder) v) _ (k .2) in
+        any-in (holds v cs)
         (keep-in (startsInUse l) (d .mem) (and-i _ _ (eq-eqb (d .s .scope) (d .s .row) (d .start)) (ap (isActive l) holder ∙ act)))
-        (and-i _ _ (eq-eqb (d .s .holder) v holder) (eq-eqb (d .s .cell) c cell))
+        (and-i _ _ (eq-eqb (d .s .holder) v holder) cell)
 
 -- ── The rules ─────────────────────────────────────────────────────────────────────────────────────────────────────────
 
@@ -94,18 +95,21 @@ module _ (rs : List Row) (al : allowedLog rs ≡ true) where
   unfolding lawfulBy lawful
   lawful-commit named v = clean-by v
 
-  lawful-handOver : (named : Row) (g r c : ℕ) → lawfulBy (indexOf (ledger rs)) named (handOver g r c) ≡ lawful (ledger rs) (handOver g r c)
-  unfolding lawfulBy lawful
-  lawful-handOver named g r c =
+  may-hand-over-by : (g r : ℕ) (cs : ℕ → Bool) → mayHandOver (indexOf (ledger rs)) g r cs ≡ book.mayHandOver (ledger rs) g r cs
+  may-hand-over-by g r cs =
       rw (is-listed (ledger rs) g, is-bearing (ledger rs) g, is-listed (ledger rs) r, is-bearing (ledger rs) r)
       (bools (not (eqb g r)) (isActive (ledger rs) g) (isActive (ledger rs) r) (bearsUndo (ledger rs) g) (bearsUndo (ledger rs) r)
-      (holdsBy (indexOf (ledger rs)) g c) (holdsAny (ledger rs) g c) (λ act. holds-by (ledger rs) g c (scoped-log rs) act))
+      (holdsBy (indexOf (ledger rs)) g cs) (holdsAny (ledger rs) g cs) (λ act. holds-by (ledger rs) g cs (scoped-log rs) act))
     where
       bools : (n a b p q h k : Bool) → (a ≡ true → h ≡ k) → (n && a && b && not (a && p) && not (b && q) && h) ≡ (n && a && b && not p && not q && k)
       bools true true true p q h k f = ap (λ (t : Bool). not p && not q && t) (f refl)
       bools true true false p q h k f = refl
       bools true false b p q h k f = refl
       bools false a b p q h k f = refl
+
+  lawful-handOver : (named : Row) (g r c : ℕ) → lawfulBy (indexOf (ledger rs)) named (handOver g r c) ≡ lawful (ledger rs) (handOver g r c)
+  unfolding lawfulBy lawful
+  lawful-handOver named g r c = may-hand-over-by g r (only c)
 
   lawful-undo : (named : Row) (h c n : ℕ) (a : ℤ) → (1 ≤ n → n ≤ length rs → named ≡ rowAt rs n)
       → lawfulBy (indexOf (ledger rs)) named (undo h c n a) ≡ lawful (ledger rs) (undo h c n a)

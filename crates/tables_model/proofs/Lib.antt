@@ -1,3 +1,4 @@
+pub mod Entries
 pub mod Reversed
 pub mod Padded
 pub mod Looking

@@ -2,7 +2,7 @@
 use Prim.Native.Nat.{ℕ, suc, _-_}
 use native.Mathlib.Omega.{arith}
 use mathlib.Core.Path.{_≡_, ap, ap₂, sym, _∙_}
-use mathlib.Core.Bool.{true, not}
+use mathlib.Core.Bool.{Bool, true, not}
 use mathlib.Core.List.{List, _++_, map, reverse}
 use lib.ListN.{length, replicate, length-map, length-reverse}
 use lib.IntN.{ℤ}
@@ -11,8 +11,8 @@ use borrow.Author.Tests.{eqb-true, ltb-true}
 use Rattle.book.specs.Lists.{keep, padTo, without}
 use Rattle.book.specs.Limits.{activeLimit, scopeLimit}
 use Rattle.book.specs.Rows.{Row, begin, change, handOver, undo, commit, abort}
-use Rattle.book.specs.Ledger.{Ledger, after, ledger}
-use Rattle.book.specs.Rules.{isActive, scopeFits, lawful, withinLimits, allowed, allowedLog}
+use Rattle.book.specs.Ledger.{Ledger, only, handed, after, ledger}
+use Rattle.book.specs.Rules.{isActive, scopeFits, mayHandOver, lawful, withinLimits, allowed, allowedLog}
 use Rattle.book.specs.Scopes.{Scope, unused, scopesOf}
 use Rattle.book.proofs.Lists.{and-l, and-r, is-false}
 use Rattle.book.proofs.Invariant.{Inv}
@@ -24,7 +24,7 @@ use Rattle.tables_model.specs.declared.Whom.{Whom}
 use Rattle.tables_model.specs.declared.Whom.the-variants.{One}
 use Rattle.tables_model.specs.Visits.{withUndo, withEnded, withUsed}
 use Rattle.tables_model.specs.Table.{isHeld, passed, Scopes, scopesHanded, leftBy, scopesEnded}
-use Rattle.tables_model.specs.Rows.{Index, stepBy}
+use Rattle.tables_model.specs.Rows.{Index, afterHandOver, stepBy}
 use Rattle.tables_model.specs.Meaning.{activeOf, tablesOf, scopeTable, indexOf, beforeUndone}
 use Rattle.tables_model.proofs.Reversed.{keep-reverse, map-reverse}
 use Rattle.tables_model.proofs.Padded.{take-pad, drop-pad, map-pad, replaced}
@@ -65,22 +65,26 @@ module _ (l : Ledger) (i : Inv l) (S : Scoped (l .changes)) where
       ap (λ (s : Scopes). index (withUsed (tablesOf l) (s .used)) (s .entries))
       (scopes-changed l v c a i S act (scope-room l v c room))
 
-  step-handOver : (n before g r c : ℕ) → allowed l (handOver g r c) ≡ true
-      → stepBy (indexOf l) n before (handOver g r c) ≡ indexOf (after l (handOver g r c))
-  unfolding stepBy allowed lawful scopesHanded scopeTable tablesOf after
-  step-handOver n before g r c al =
+  step-handed : (g r : ℕ) (cs : ℕ → Bool) → mayHandOver l g r cs ≡ true → afterHandOver (indexOf l) g r cs ≡ indexOf (handed l g r cs)
+  unfolding scopesHanded scopeTable tablesOf
+  step-handed g r cs al =
       let actg : isActive l g ≡ true = search (and-l, and-r) depth 9 in
       let actr : isActive l r ≡ true = search (and-l, and-r) depth 9 in
-      let is = scopes-handed l g r c actg actr in
-      let many : length (scopesOf (after l (handOver g r c))) ≡ length (scopesOf l) = ap length is ∙ length-map (scopesOf l) (replaced (isHeld g c) (passed r)) in
+      let is = scopes-handed l g r cs actg actr in
+      let many : length (scopesOf (handed l g r cs)) ≡ length (scopesOf l) = ap length is ∙ length-map (scopesOf l) (replaced (isHeld g cs) (passed r)) in
       ap₂ index
       (ap (withUsed (tablesOf l)) (sym many))
-      (ap₂ (λ (ss ts : List Scope). map (replaced (isHeld g c) (passed r)) ss ++ ts)
+      (ap₂ (λ (ss ts : List Scope). map (replaced (isHeld g cs) (passed r)) ss ++ ts)
       (take-pad scopeLimit unused (scopesOf l)) (drop-pad scopeLimit unused (scopesOf l)) ∙
       ap (λ (ss : List Scope). ss ++ replicate (scopeLimit - length (reverse (scopesOf l))) unused)
-      (map-reverse (replaced (isHeld g c) (passed r)) (scopesOf l) ∙ ap reverse (sym is)) ∙
-      map-pad scopeLimit unused (reverse (scopesOf l)) (reverse (scopesOf (after l (handOver g r c))))
-      (length-reverse (scopesOf l) ∙ sym many ∙ sym (length-reverse (scopesOf (after l (handOver g r c))))))
+      (map-reverse (replaced (isHeld g cs) (passed r)) (scopesOf l) ∙ ap reverse (sym is)) ∙
+      map-pad scopeLimit unused (reverse (scopesOf l)) (reverse (scopesOf (handed l g r cs)))
+      (length-reverse (scopesOf l) ∙ sym many ∙ sym (length-reverse (scopesOf (handed l g r cs)))))
+
+  step-handOver : (n before g r c : ℕ) → allowed l (handOver g r c) ≡ true
+      → stepBy (indexOf l) n before (handOver g r c) ≡ indexOf (after l (handOver g r c))
+  unfolding stepBy allowed lawful after
+  step-handOver n before g r c al = step-handed g r (only c) (search (and-l, and-r))
 
   -- the scope table after a commit or an abort, by the scopes that are left
   scopes-ended : (v : ℕ) (ss : List Scope) → ss ≡ keep (λ s. not (eqb (s .holder) v)) (scopesOf l)

@@ -10,8 +10,8 @@ use borrow.Author.Tests.{eqb-true, ltb-true}
 use Rattle.book.specs.Lists.{keep, foldl}
 use Rattle.book.specs.Limits.{activeLimit, scopeLimit}
 use Rattle.book.specs.Rows.{Row, begin, change, handOver, undo, commit, abort}
-use Rattle.book.specs.Ledger.{Ledger, empty, newChange, startsScope, after, ledger}
-use Rattle.book.specs.Rules.{isActive, scopesInUse, scopeFits, lawful, withinLimits, allowed, allAllowed, allowedLog}
+use Rattle.book.specs.Ledger.{Ledger, empty, newChange, startsScope, only, handed, after, ledger}
+use Rattle.book.specs.Rules.{isActive, scopesInUse, scopeFits, mayHandOver, lawful, withinLimits, allowed, allAllowed, allowedLog}
 use Rattle.book.specs.Scopes.{scopesOf}
 use Rattle.book.proofs.Lists.{and-l, and-r, any-none, length-keep, keep-all, length-without-le}
 use Rattle.book.proofs.Invariant.{Inv}
@@ -34,6 +34,13 @@ shorter p xs = let k = length-keep p (λ x. true) xs (λ x m h. refl) in let e =
 pub scope-room : (l : Ledger) (v c : ℕ) → scopeFits l v c ≡ true → startsScope l v c ≡ true → length (scopesOf l) < scopeLimit
 scope-room l v c room h = rw (scopes-count l) (ltb-true (scopesInUse l) scopeLimit (rw h at room))
 
+limited-handed : (l : Ledger) (g r : ℕ) (cs : ℕ → Bool) → mayHandOver l g r cs ≡ true → Limited l → Limited (handed l g r cs)
+limited-handed l g r cs e L =
+    let actg : isActive l g ≡ true = search (and-l, and-r) depth 9 in
+    let actr : isActive l r ≡ true = search (and-l, and-r) depth 9 in
+    let is = ap length (scopes-handed l g r cs actg actr) ∙ length-map (scopesOf l) _ in
+    let few = L .scopes in record { active = L .active; scopes = omega arith }
+
 limited-after : (l : Ledger) (r : Row) → allowed l r ≡ true → Inv l → Scoped (l .changes) → Limited l → Limited (after l r)
 unfolding after allowed lawful withinLimits
 limited-after l (begin v) e i S L =
@@ -53,11 +60,7 @@ limited-after l (change v c a) e i S L =
         let lt = room (ap not (any-none _ (l .changes) k)) in
         let is = ap length (scopes-started l v c a i S act k) in omega arith
     go act room (grows y m k q) = let few = L .scopes in let is = ap length (scopes-grown l v c a i S act y m q) ∙ length-map (scopesOf l) _ in omega arith
-limited-after l (handOver g r c) e i S L =
-    let actg : isActive l g ≡ true = search (and-l, and-r) depth 9 in
-    let actr : isActive l r ≡ true = search (and-l, and-r) depth 9 in
-    let is = ap length (scopes-handed l g r c actg actr) ∙ length-map (scopesOf l) _ in
-    let few = L .scopes in record { active = L .active; scopes = omega arith }
+limited-after l (handOver g r c) e i S L = limited-handed l g r (only c) (search (and-l, and-r)) L
 limited-after l (undo h c n a) e i S L =
     let law : lawful l (undo h c n a) ≡ true = search (and-l, and-r) in
     let u = undoes l h c n a law in

@@ -10,6 +10,7 @@ use lib.Dec.{eqb, leb, ltb}
 use Rattle.book.specs.Lists.{eqZ}
 use Rattle.book.specs.Limits.{rowLimit, activeLimit, scopeLimit}
 use Rattle.book.specs.Rows.{Row, begin, change, handOver, undo, commit, abort}
+use Rattle.book.specs.Ledger.{only}
 use Rattle.book.specs.Scopes.{Scope}
 use Rattle.tables_model.specs.declared.Tables.{Tables}
 use Rattle.tables_model.specs.declared.Whom.the-variants.{One}
@@ -46,8 +47,9 @@ highestOf x v = lastAt (highest (One (record { 0 = v })) (x .tables .used) (x .s
 unfoldable pub growsBy : Index → ℕ → ℕ → Bool
 growsBy x v c = isSome (find (grows v c) (x .tables .used) (x .scopes))
 
-abbrev pub holdsBy : Index → ℕ → ℕ → Bool
-holdsBy x v c = holdsCell (x .tables .used) v c (x .scopes)
+-- the visit holds changes of these cells
+abbrev pub holdsBy : Index → ℕ → (ℕ → Bool) → Bool
+holdsBy x v cs = holdsCell (x .tables .used) v cs (x .scopes)
 
 -- the row is a change with this cell and amount
 abbrev pub isChange : Row → ℕ → ℤ → Bool
@@ -62,9 +64,10 @@ isChange (abort v) c a = false
 abbrev pub mayAct : Tables → ℕ → Bool
 mayAct t v = isListed t v && not (isBearing t v)
 
-abbrev pub mayHandOver : Index → ℕ → ℕ → ℕ → Bool
-mayHandOver x g r c =
-    not (eqb g r) && isListed (x .tables) g && isListed (x .tables) r && not (isBearing (x .tables) g) && not (isBearing (x .tables) r) && holdsBy x g c
+-- giver and receiver are two active visits that no undo row bears, and the giver holds changes of these cells
+abbrev pub mayHandOver : Index → ℕ → ℕ → (ℕ → Bool) → Bool
+mayHandOver x g r cs =
+    not (eqb g r) && isListed (x .tables) g && isListed (x .tables) r && not (isBearing (x .tables) g) && not (isBearing (x .tables) r) && holdsBy x g cs
 
 abbrev pub mayUndo : Index → Row → ℕ → ℕ → ℕ → ℤ → Bool
 mayUndo x named h c n a = leb 1 n && eqb (highestOf x h) n && isChange named c a
@@ -76,7 +79,7 @@ mayAbort x v = isListed (x .tables) v && eqb (highestOf x v) 0
 unfoldable pub lawfulBy : Index → Row → Row → Bool
 lawfulBy x named (begin v) = eqb v (suc (x .tables .begun))
 lawfulBy x named (change v c a) = mayAct (x .tables) v
-lawfulBy x named (handOver g r c) = mayHandOver x g r c
+lawfulBy x named (handOver g r c) = mayHandOver x g r (only c)
 lawfulBy x named (undo h c n a) = mayUndo x named h c n a
 lawfulBy x named (commit v) = mayAct (x .tables) v
 lawfulBy x named (abort v) = mayAbort x v
@@ -112,8 +115,8 @@ afterChange x n v c =
     let s : Scopes = scopesChanged (x .tables .used) n v c (x .scopes) in
     record { tables = withUsed (x .tables) (s .used); scopes = s .entries }
 
-abbrev pub afterHandOver : Index → ℕ → ℕ → ℕ → Index
-afterHandOver x g r c = record { tables = x .tables; scopes = scopesHanded (x .tables .used) g r c (x .scopes) }
+abbrev pub afterHandOver : Index → ℕ → ℕ → (ℕ → Bool) → Index
+afterHandOver x g r cs = record { tables = x .tables; scopes = scopesHanded (x .tables .used) g r cs (x .scopes) }
 
 -- an undo of the holder's highest open change
 abbrev pub afterUndo : Index → ℕ → ℕ → Index
@@ -130,7 +133,7 @@ afterEnd x v =
 unfoldable pub stepBy : Index → ℕ → ℕ → Row → Index
 stepBy x n before (begin v) = record { tables = withBegun (x .tables) v; scopes = x .scopes }
 stepBy x n before (change v c a) = afterChange x n v c
-stepBy x n before (handOver g r c) = afterHandOver x g r c
+stepBy x n before (handOver g r c) = afterHandOver x g r (only c)
 stepBy x n before (undo h c k a) = afterUndo x h before
 stepBy x n before (commit v) = afterEnd x v
 stepBy x n before (abort v) = afterEnd x v

@@ -7,9 +7,12 @@ use lib.ListN.{length, take, drop, set, getD}
 use lib.Dec.{eqb, ltb}
 use Rattle.book.specs.Lists.{keep, any, padTo}
 use Rattle.book.specs.Limits.{scopeLimit}
+use Rattle.book.specs.Ledger.{only, every}
 use Rattle.book.specs.Scopes.{Scope, unused}
 use Rattle.tables_model.specs.declared.Whom.{Whom}
 use Rattle.tables_model.specs.declared.Whom.the-variants.{One, All}
+use Rattle.tables_model.specs.declared.CellSet.{CellSet}
+use Rattle.tables_model.specs.declared.CellSet.the-variants.{Only, Every}
 use Rattle.tables_model.specs.declared.Found.{Found}
 use Rattle.tables_model.specs.declared.Found.the-variants.{At, Nothing}
 use Rattle.tables_model.specs.declared.Candidate.{Candidate}
@@ -29,12 +32,17 @@ find p used ss = findFrom p 0 (take used ss)
 abbrev pub grows : ℕ → ℕ → Scope → Bool
 grows v c s = eqb (s .maker) v && eqb (s .cell) c && not (s .handed)
 
--- the holder has changes of the cell in this scope
-abbrev pub isHeld : ℕ → ℕ → Scope → Bool
-isHeld v c s = eqb (s .holder) v && eqb (s .cell) c
+-- the holder has changes of a cell of the set in this scope
+abbrev pub isHeld : ℕ → (ℕ → Bool) → Scope → Bool
+isHeld v cs s = eqb (s .holder) v && cs (s .cell)
 
-unfoldable pub holdsCell : ℕ → ℕ → ℕ → List Scope → Bool
-holdsCell used v c ss = any (isHeld v c) (take used ss)
+unfoldable pub holdsCell : ℕ → ℕ → (ℕ → Bool) → List Scope → Bool
+holdsCell used v cs ss = any (isHeld v cs) (take used ss)
+
+-- the cells that a hand-over is about
+abbrev pub among : CellSet → ℕ → Bool
+among (Only c) k = only (c .0) k
+among Every k = every k
 
 -- the visits that a take-back is about
 abbrev pub covers : Whom → ℕ → Bool
@@ -98,12 +106,12 @@ scopesChanged used n v c ss = changedAt used n v c (find (grows v c) used ss) ss
 abbrev pub passed : ℕ → Scope → Scope
 passed r s = record { maker = s .maker; holder = r; cell = s .cell; first = s .first; last = s .last; handed = true; count = s .count }
 
-abbrev pub handedOn : ℕ → ℕ → ℕ → Scope → Scope
-handedOn g r c s = cond (isHeld g c s) (passed r s) s
+abbrev pub handedOn : ℕ → ℕ → (ℕ → Bool) → Scope → Scope
+handedOn g r cs s = cond (isHeld g cs s) (passed r s) s
 
--- a hand-over: every entry of the cell that the giver holds
-unfoldable pub scopesHanded : ℕ → ℕ → ℕ → ℕ → List Scope → List Scope
-scopesHanded used g r c ss = map (handedOn g r c) (take used ss) ++ drop used ss
+-- a hand-over: every entry of these cells that the giver holds
+unfoldable pub scopesHanded : ℕ → ℕ → ℕ → (ℕ → Bool) → List Scope → List Scope
+scopesHanded used g r cs ss = map (handedOn g r cs) (take used ss) ++ drop used ss
 
 -- the entries that another visit holds
 abbrev pub leftBy : ℕ → ℕ → List Scope → List Scope
@@ -152,7 +160,7 @@ pub record MayNote (t : List ℕ) (used v c : ℕ) : Type 0 where
 
 -- the entry instead of the best one so far, where it has a higher open change of these visits
 abbrev pub betterOf : Whom → ℕ → Candidate → Scope → Candidate
-betterOf w i b s = cond (covers w (s .holder) && ltb (b .last) (s .last)) (record { last = s .last; at = At i }) b
+betterOf w i b s = cond (covers w (s .holder) && ltb (b .last .0) (s .last)) (record { last = record { 0 = s .last }; at = At i }) b
 
 -- entry i is to be put at a place before it, or stays
 pub record Moves (size kept i : ℕ) : Type 0 where

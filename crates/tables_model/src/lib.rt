@@ -19,15 +19,15 @@ pub struct Tables {
     pub used: usize,
 }
 
-// An entry of the scope table with its numbers as they stand there, of any value.
-pub struct Entry {
-    pub maker: u16,
-    pub holder: u16,
-    pub cell: u16,
-    pub first: u16,
-    pub last: u16,
-    pub handed: bool,
-    pub count: u16,
+// An entry of the scope table: changes of one cell by one maker that share a holder.
+pub struct Scope {
+    pub maker: Visit,
+    pub holder: Visit,
+    pub cell: Cell,
+    pub first: Lsn,
+    pub last: Lsn,    // the highest of its changes that is not undone, 0 for none
+    pub handed: bool, // it was handed over, so its maker's next change starts another
+    pub count: u16,   // its changes that are not undone
 }
 
 // An entry of the scope table: changes of one cell by one maker that share a holder.
@@ -47,6 +47,12 @@ pub enum Whom {
     All,
 }
 
+// The cells that a hand-over is about: one, or all.
+pub enum CellSet {
+    Only(Cell),
+    Every,
+}
+
 // An entry of the scope table, or none.
 pub enum Found {
     At(usize),
@@ -55,7 +61,7 @@ pub enum Found {
 
 // What a search for the highest open change has seen: the row, and its entry.
 pub struct Candidate {
-    pub last: u16,
+    pub last: Lsn,
     pub at: Found,
 }
 
