@@ -1,7 +1,7 @@
 -- The book of document 01 ("Sessions and the book"): what each call and each opening answers, and which rows are stored and which wait, from the
 -- calls and their arguments alone.
 use Prim.Native.Nat.{ℕ, zero, suc, _+_}
-use mathlib.Core.Bool.{Bool, true, false, cond, not}
+use mathlib.Core.Bool.{Bool, true, cond, not}
 use mathlib.Core.List.{List, [], _∷_, _++_, map}
 use lib.ListN.{length}
 use lib.IntN.{ℤ, pos}

@@ -1,5 +1,5 @@
 -- The numbers that document 01 fixes, each in one place: sizes of the store, lengths of the lent buffers, limits.
-use Prim.Native.Nat.{ℕ, _*_}
+use Prim.Native.Nat.{ℕ}
 
 -- 01: 4,096 rows of 16 bytes, so a log of 65,536 bytes
 abbrev pub rowLimit : ℕ

@@ -1,6 +1,6 @@
 -- A row's 16 bytes (document 01, "The store"): the table of bytes, writing and reading.
 use Prim.Native.Nat.{ℕ, zero, suc}
-use mathlib.Core.Bool.{Bool, _&&_}
+use mathlib.Core.Bool.{Bool}
 use mathlib.Core.List.{List, [], _∷_, _++_}
 use lib.ListN.{getD, replicate}
 use lib.IntN.{ℤ, pos}

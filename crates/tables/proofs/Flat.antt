@@ -1,5 +1,5 @@
 -- The flat scope table and its entries: how many there are, what stands at each, and what seven stores to one of them do. Assumes nothing.
-use Prim.Native.Nat.{ℕ, zero, suc, _+_, _*_, _≤_, _<_}
+use Prim.Native.Nat.{ℕ, zero, suc, _+_, _*_, _%_, _≤_, _<_}
 use mathlib.Core.Path.{_≡_, refl, sym, _∙_, ap}
 use mathlib.Core.Logic.{_≢_}
 use mathlib.Core.Bool.{Bool, true, false, not}
@@ -88,13 +88,14 @@ handed-back true = refl
 handed-back false = refl
 
 -- the entry that was set
-stores-here : (t : List ℕ) (i m h c f l n : ℕ) (b : Bool) → 7 * i + 7 ≤ length t
+stores-here : (t : List ℕ) (i m h c f l n : ℕ) (b : Bool) → 7 * i + 7 ≤ length t → c < 256
     → entryAt (stores t (7 * i) m h c f l (flag b) n) i
     ≡ record { maker = m; holder = h; cell = c; first = f; last = l; handed = b; count = n }
-stores-here t i m h c f l n b w =
+stores-here t i m h c f l n b w z =
+    let one : c % 256 ≡ c = omega arith in
     let vs = seven m h c f l (flag b) n in
-    let at : (k : ℕ) → k < 7 → getD (sets t (7 * i) vs) (7 * i + k) 0 ≡ getD vs k 0 = λ k z. sets-here t vs (7 * i) k w z in
-    rw (stores-are, at 0 (omega arith), at 1 (omega arith), at 2 (omega arith), at 3 (omega arith), at 4 (omega arith), at 5 (omega arith), at 6 (omega arith), handed-back b)
+    let at : (k : ℕ) → k < 7 → getD (sets t (7 * i) vs) (7 * i + k) 0 ≡ getD vs k 0 = λ k q. sets-here t vs (7 * i) k w q in
+    rw (stores-are, at 0 (omega arith), at 1 (omega arith), at 2 (omega arith), at 3 (omega arith), at 4 (omega arith), at 5 (omega arith), at 6 (omega arith), handed-back b, one)
 
 -- the numbers of another entry
 set-away : (t : List ℕ) (j b x : ℕ) → ((k : ℕ) → k < 7 → 7 * j + k ≢ b) → entryAt (set t b x) j ≡ entryAt t j
@@ -109,13 +110,13 @@ sets-away (v ∷ vs) t j b h =
     ∙ set-away t j b v (λ k p e. h k 0 p (omega arith) (omega arith))
 
 -- the table after the seven stores
-pub stores-set : (t : List ℕ) (i m h c f l n : ℕ) (b : Bool) → i < 64 → length t ≡ 448
+pub stores-set : (t : List ℕ) (i m h c f l n : ℕ) (b : Bool) → i < 64 → length t ≡ 448 → c < 256
     → entries (stores t (7 * i) m h c f l (flag b) n)
     ≡ set (entries t) i (record { maker = m; holder = h; cell = c; first = f; last = l; handed = b; count = n })
 unfolding entries
-stores-set t i m h c f l n b w z =
+stores-set t i m h c f l n b w z y =
     let s = stores t (7 * i) m h c f l (flag b) n in
     let k : 0 + i ≡ i = omega arith in
     let other : (j : ℕ) → j ≢ 0 + i → entryAt s j ≡ entryAt t j = λ j e.
-    rw stores-are (sets-away (seven m h c f l (flag b) n) t j (7 * i) (λ x y p q v. e (omega arith))) in
-    tabulate-set 64 0 i (entryAt s) (entryAt t) w other ∙ rw (k, stores-here t i m h c f l n b (omega arith))
+    rw stores-are (sets-away (seven m h c f l (flag b) n) t j (7 * i) (λ x u p q v. e (omega arith))) in
+    tabulate-set 64 0 i (entryAt s) (entryAt t) w other ∙ rw (k, stores-here t i m h c f l n b (omega arith) y)

@@ -35,15 +35,15 @@ module _ (t : List ℕ) (used i : ℕ) (h : i < used) (k : used ≤ 64) where
   pub count-next : countAll (left used i (entries t)) ≡ getD (entries t) i unused .count + countAll (left used (i + 1) (entries t))
   count-next = rw next
 
-  better-by : (w : Whom) (b : Candidate) (q : Bool) → covers w (getD (entries t) i unused .holder) && ltb (b .last) (getD (entries t) i unused .last) ≡ q
+  better-by : (w : Whom) (b : Candidate) (q : Bool) → covers w (getD (entries t) i unused .holder) && ltb (b .last .0) (getD (entries t) i unused .last) ≡ q
       → (r : Candidate) → r ≡ betterOf w i b (getD (entries t) i unused)
-      → highestFrom w i (b .last) (b .at) (left used i (entries t)) ≡ highestFrom w (i + 1) (r .last) (r .at) (left used (i + 1) (entries t))
+      → highestFrom w i (b .last .0) (b .at) (left used i (entries t)) ≡ highestFrom w (i + 1) (r .last .0) (r .at) (left used (i + 1) (entries t))
   better-by w b true e r z = rw (z, next, e, add-one i)
   better-by w b false e r z = rw (z, next, e, add-one i)
 
   pub highest-next : (w : Whom) (b r : Candidate) → r ≡ betterOf w i b (getD (entries t) i unused)
-      → highestFrom w i (b .last) (b .at) (left used i (entries t)) ≡ highestFrom w (i + 1) (r .last) (r .at) (left used (i + 1) (entries t))
-  highest-next w b r = better-by w b (covers w (getD (entries t) i unused .holder) && ltb (b .last) (getD (entries t) i unused .last)) refl r
+      → highestFrom w i (b .last .0) (b .at) (left used i (entries t)) ≡ highestFrom w (i + 1) (r .last .0) (r .at) (left used (i + 1) (entries t))
+  highest-next w b r = better-by w b (covers w (getD (entries t) i unused .holder) && ltb (b .last .0) (getD (entries t) i unused .last)) refl r
 
 -- ── Where they end ────────────────────────────────────────────────────────────────────────────────────────────────────
 

@@ -3,20 +3,24 @@ ghost use mathlib.Core.Path.{_≡_};
 ghost use lib.ListN.{length, getD, set, replicate};
 ghost use Rattle.book.specs.Scopes.{unused};
 ghost use Rattle.tables_model.specs.Entries.{flatLength, Inside, scopeIn, flag, entries as entriesOf, Counted};
-use tables_model::Entry;
+use rows::Cell;
+use rows::Lsn;
+use rows::Visit;
+use rows::numbers::low;
+use tables_model::Scope;
 
-// Entry i. Whatever is not 0 counts as handed.
-pub fn entry_at(t: &[u16], i: usize) -> Entry
+// Entry i. A cell has one byte, and whatever is not 0 counts as handed.
+pub fn entry_at(t: &[u16], i: usize) -> Scope
     requires { ⌜ Inside (length (now t)) i ⌝ }
     ensures { λ r. ⌜ scopeIn r ≡ getD (entriesOf (now (t .entry))) i unused ⌝ }
 {
     let at = 7 * i;
-    Entry {
-        maker: t[at],
-        holder: t[at + 1],
-        cell: t[at + 2],
-        first: t[at + 3],
-        last: t[at + 4],
+    Scope {
+        maker: Visit(t[at]),
+        holder: Visit(t[at + 1]),
+        cell: Cell(low(t[at + 2])),
+        first: Lsn(t[at + 3]),
+        last: Lsn(t[at + 4]),
         handed: t[at + 5] != 0,
         count: t[at + 6],
     }
@@ -38,17 +42,17 @@ fn flag_of(b: bool) -> u16
 }
 
 // Entry i is set.
-pub fn put_entry(t: &mut [u16], i: usize, e: Entry)
+pub fn put_entry(t: &mut [u16], i: usize, e: Scope)
     requires { ⌜ Inside (length (now t)) i ⌝ }
     ensures { λ _. ⌜ entriesOf (now (t .exit)) ≡ set (entriesOf (now (t .entry))) i (scopeIn e) ⌝ }
 {
     let handed = flag_of(e.handed);
     let at = 7 * i;
-    t[at] = e.maker;
-    t[at + 1] = e.holder;
-    t[at + 2] = e.cell;
-    t[at + 3] = e.first;
-    t[at + 4] = e.last;
+    t[at] = e.maker.0;
+    t[at + 1] = e.holder.0;
+    t[at + 2] = e.cell.0 as u16;
+    t[at + 3] = e.first.0;
+    t[at + 4] = e.last.0;
     t[at + 5] = handed;
     t[at + 6] = e.count;
 }

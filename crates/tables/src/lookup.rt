@@ -3,7 +3,7 @@ ghost use mathlib.Core.Path.{_≡_};
 ghost use Prim.Native.Nat.{_<_};
 ghost use lib.ListN.{length};
 ghost use Rattle.tables_model.specs.Entries.{Sized, scopeIn, entries as entriesOf};
-ghost use Rattle.tables_model.specs.Table.{find, grows, holdsCell, highest as highestIn, lastAt, openCount, betterOf, Reaches};
+ghost use Rattle.tables_model.specs.Table.{find, grows, among, holdsCell, highest as highestIn, lastAt, openCount, betterOf, Reaches};
 use crate::entries::count_at;
 use crate::entries::entry_at;
 use crate::scopes::covers;
@@ -13,8 +13,9 @@ use rows::Cell;
 use rows::Lsn;
 use rows::Visit;
 use tables_model::Candidate;
-use tables_model::Entry;
+use tables_model::CellSet;
 use tables_model::Found;
+use tables_model::Scope;
 use tables_model::Whom;
 
 // The first entry in use that a change of the cell by the visit grows.
@@ -33,15 +34,15 @@ pub fn find_growing(t: &[u16], used: usize, v: Visit, c: Cell) -> Found
     Found::Nothing
 }
 
-// The visit holds changes of the cell.
-pub fn holds_cell(t: &[u16], used: usize, v: Visit, c: Cell) -> bool
+// The visit holds changes of these cells.
+pub fn holds_cell(t: &[u16], used: usize, v: Visit, cs: CellSet) -> bool
     requires { ⌜ Sized (length (now t)) used ⌝ }
-    ensures { λ r. ⌜ r ≡ holdsCell used (v .0) (c .0) (entriesOf (now (t .entry))) ⌝ }
+    ensures { λ r. ⌜ r ≡ holdsCell used (v .0) (among cs) (entriesOf (now (t .entry))) ⌝ }
 {
     let mut i: usize = 0;
     while i < used {
         let e = entry_at(t, i);
-        if is_held(e, v, c) {
+        if is_held(e, v, cs) {
             return true;
         }
         i += 1;
@@ -50,13 +51,15 @@ pub fn holds_cell(t: &[u16], used: usize, v: Visit, c: Cell) -> bool
 }
 
 // The entry instead of the best one so far, where it has a higher open change of these visits.
-fn better(best: Candidate, i: usize, e: Entry, w: Whom) -> Candidate
+fn better(best: Candidate, i: usize, e: Scope, w: Whom) -> Candidate
     ensures { λ r. ⌜ r ≡ betterOf w i best (scopeIn e) ⌝ }
 {
-    if covers(w, e.holder) {
-        if best.last < e.last {
+    let holder = e.holder;
+    let last = e.last;
+    if covers(w, holder) {
+        if best.last.0 < last.0 {
             return Candidate {
-                last: e.last,
+                last: last,
                 at: Found::At(i),
             };
         }
@@ -70,7 +73,7 @@ pub fn highest(t: &[u16], used: usize, w: Whom) -> Found
     ensures { λ r. ⌜ r ≡ highestIn w used (entriesOf (now (t .entry))) ⌝ }
 {
     let mut best = Candidate {
-        last: 0,
+        last: Lsn(0),
         at: Found::Nothing,
     };
     let mut i: usize = 0;
@@ -91,7 +94,8 @@ pub fn last_at(t: &[u16], found: Found) -> Lsn
     match found {
         Found::At(i) => {
             let e = entry_at(t, i);
-            Lsn(e.last)
+            let last = e.last;
+            last
         }
         Found::Nothing => Lsn(0),
     }

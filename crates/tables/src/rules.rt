@@ -8,6 +8,7 @@ ghost use Rattle.book.specs.Lists.{eqZ};
 ghost use Rattle.rows.specs.Meaning.{meant};
 ghost use Rattle.tables_model.specs.Visits.{InRange};
 ghost use Rattle.tables_model.specs.Rows.{Ready, index, reserveBy, roomBy, highestOf, growsBy, isChange, mayAct};
+ghost use Rattle.tables_model.specs.Table.{among};
 ghost use Rattle.tables_model.specs.Rows.{mayHandOver, mayUndo, mayAbort, lawfulBy, roomToBegin, roomToChange, withinLimitsBy, judgeBy};
 use crate::lookup::find_growing;
 use crate::lookup::highest;
@@ -20,6 +21,7 @@ use rows::Cell;
 use rows::Lsn;
 use rows::Row;
 use rows::Visit;
+use tables_model::CellSet;
 use tables_model::Found;
 use tables_model::Tables;
 use tables_model::Verdict;
@@ -82,9 +84,9 @@ pub fn may_act(t: Tables, v: Visit) -> bool
     }
 }
 
-pub fn may_hand_over(t: Tables, scopes: &[u16], g: Visit, r: Visit, c: Cell) -> bool
+pub fn may_hand_over(t: Tables, scopes: &[u16], g: Visit, r: Visit, cs: CellSet) -> bool
     requires { ⌜ Ready t (length (now scopes)) ⌝ }
-    ensures { λ b. ⌜ b ≡ mayHandOver (index t (now (scopes .entry))) (g .0) (r .0) (c .0) ⌝ }
+    ensures { λ b. ⌜ b ≡ mayHandOver (index t (now (scopes .entry))) (g .0) (r .0) (among cs) ⌝ }
 {
     if g.0 == r.0 {
         return false;
@@ -101,7 +103,7 @@ pub fn may_hand_over(t: Tables, scopes: &[u16], g: Visit, r: Visit, c: Cell) -> 
     if is_bearing(t, r) {
         return false;
     }
-    holds_cell(scopes, t.used, g, c)
+    holds_cell(scopes, t.used, g, cs)
 }
 
 // Same cell and same amount.
@@ -167,7 +169,7 @@ pub fn is_lawful(t: Tables, scopes: &[u16], row: Row, named: Row) -> bool
     match row {
         Row::Begin(v) => is_next(t, v),
         Row::Change(v, _, _) => may_act(t, v),
-        Row::HandOver(g, r, c) => may_hand_over(t, scopes, g, r, c),
+        Row::HandOver(g, r, c) => may_hand_over(t, scopes, g, r, CellSet::Only(c)),
         Row::Undo(h, c, n, a) => may_undo(t, scopes, named, h, c, n, a),
         Row::Commit(v) => may_act(t, v),
         Row::Abort(v) => may_abort(t, scopes, v),

@@ -3,107 +3,113 @@ ghost use mathlib.Core.Path.{_≡_};
 ghost use Prim.Native.Nat.{_-_};
 ghost use Rattle.book.specs.Scopes.{unused as unusedScope};
 ghost use Rattle.tables_model.specs.Entries.{scopeIn};
-ghost use Rattle.tables_model.specs.Table.{grows, isHeld, covers as coversBy, grown as grownScope};
+ghost use Rattle.tables_model.specs.Table.{grows, among, isHeld, covers as coversBy, grown as grownScope};
 ghost use Rattle.tables_model.specs.Table.{started as startedScope, passed as passedScope, handedOn, lowered as loweredScope};
 use rows::Cell;
 use rows::Lsn;
 use rows::Visit;
-use tables_model::Entry;
+use tables_model::CellSet;
+use tables_model::Scope;
 use tables_model::Whom;
 
 // The maker changed the cell in this scope, and has not handed it over since.
-pub fn may_grow(e: Entry, v: Visit, c: Cell) -> bool
+pub fn may_grow(e: Scope, v: Visit, c: Cell) -> bool
     ensures { λ r. ⌜ r ≡ grows (v .0) (c .0) (scopeIn e) ⌝ }
 {
-    if e.maker == v.0 {
-        e.cell == c.0 as u16 && !e.handed
+    if e.maker.0 == v.0 {
+        e.cell.0 == c.0 && !e.handed
     } else {
         false
     }
 }
 
-// The holder has changes of the cell in this scope.
-pub fn is_held(e: Entry, v: Visit, c: Cell) -> bool
-    ensures { λ r. ⌜ r ≡ isHeld (v .0) (c .0) (scopeIn e) ⌝ }
+// The hand-over is about the cell.
+pub fn is_among(cs: CellSet, cell: Cell) -> bool
+    ensures { λ r. ⌜ r ≡ among cs (cell .0) ⌝ }
 {
-    e.holder == v.0 && e.cell == c.0 as u16
+    match cs {
+        CellSet::Only(c) => cell.0 == c.0,
+        CellSet::Every => true,
+    }
+}
+
+// The holder has changes of these cells in this scope.
+pub fn is_held(e: Scope, v: Visit, cs: CellSet) -> bool
+    ensures { λ r. ⌜ r ≡ isHeld (v .0) (among cs) (scopeIn e) ⌝ }
+{
+    let cell = e.cell;
+    if e.holder.0 == v.0 {
+        is_among(cs, cell)
+    } else {
+        false
+    }
 }
 
 // The take-back is about the holder.
-pub fn covers(w: Whom, holder: u16) -> bool
-    ensures { λ r. ⌜ r ≡ coversBy w holder ⌝ }
+pub fn covers(w: Whom, holder: Visit) -> bool
+    ensures { λ r. ⌜ r ≡ coversBy w (holder .0) ⌝ }
 {
     match w {
-        Whom::One(v) => holder == v.0,
+        Whom::One(v) => holder.0 == v.0,
         Whom::All => true,
     }
 }
 
 // A vacant entry.
-pub fn unused() -> Entry
+pub fn unused() -> Scope
     ensures { λ r. ⌜ scopeIn r ≡ unusedScope ⌝ }
 {
-    Entry {
-        maker: 0,
-        holder: 0,
-        cell: 0,
-        first: 0,
-        last: 0,
+    Scope {
+        maker: Visit(0),
+        holder: Visit(0),
+        cell: Cell(0),
+        first: Lsn(0),
+        last: Lsn(0),
         handed: false,
         count: 0,
     }
 }
 
 // A change in row n starts a scope.
-pub fn started(n: Lsn, v: Visit, c: Cell) -> Entry
+pub fn started(n: Lsn, v: Visit, c: Cell) -> Scope
     ensures { λ r. ⌜ scopeIn r ≡ startedScope (n .0) (v .0) (c .0) ⌝ }
 {
-    Entry {
-        maker: v.0,
-        holder: v.0,
-        cell: c.0 as u16,
-        first: n.0,
-        last: n.0,
+    Scope {
+        maker: v,
+        holder: v,
+        cell: c,
+        first: n,
+        last: n,
         handed: false,
         count: 1,
     }
 }
 
 // A change in row n grows the scope. The count of a table of any origin may be full: it wraps.
-pub fn grown(e: Entry, n: Lsn) -> Entry
+pub fn grown(e: Scope, n: Lsn) -> Scope
     ensures { λ r. ⌜ scopeIn r ≡ grownScope (n .0) (scopeIn e) ⌝ }
 {
-    Entry {
-        maker: e.maker,
-        holder: e.holder,
-        cell: e.cell,
-        first: e.first,
-        last: n.0,
-        handed: e.handed,
-        count: std::num::wrapping_add_u16(e.count, 1),
-    }
+    let mut r = e;
+    r.last = n;
+    r.count = std::num::wrapping_add_u16(e.count, 1);
+    r
 }
 
 // The scope passes to another holder.
-pub fn passed(e: Entry, r: Visit) -> Entry
+pub fn passed(e: Scope, r: Visit) -> Scope
     ensures { λ x. ⌜ scopeIn x ≡ passedScope (r .0) (scopeIn e) ⌝ }
 {
-    Entry {
-        maker: e.maker,
-        holder: r.0,
-        cell: e.cell,
-        first: e.first,
-        last: e.last,
-        handed: true,
-        count: e.count,
-    }
+    let mut x = e;
+    x.holder = r;
+    x.handed = true;
+    x
 }
 
-// The scope passes to the receiver, if the giver holds it for the cell.
-pub fn handed_on(e: Entry, g: Visit, r: Visit, c: Cell) -> Entry
-    ensures { λ x. ⌜ scopeIn x ≡ handedOn (g .0) (r .0) (c .0) (scopeIn e) ⌝ }
+// The scope passes to the receiver, if the giver holds it for these cells.
+pub fn handed_on(e: Scope, g: Visit, r: Visit, cs: CellSet) -> Scope
+    ensures { λ x. ⌜ scopeIn x ≡ handedOn (g .0) (r .0) (among cs) (scopeIn e) ⌝ }
 {
-    if is_held(e, g, c) {
+    if is_held(e, g, cs) {
         return passed(e, r);
     }
     e
@@ -116,16 +122,11 @@ fn one_less(n: u16) -> u16
 }
 
 // The scope's last change is undone; `before` is the one before it. The entry stays, though it may be empty: it is in use until its holder ends.
-pub fn lowered(e: Entry, before: Lsn) -> Entry
+pub fn lowered(e: Scope, before: Lsn) -> Scope
     ensures { λ r. ⌜ scopeIn r ≡ loweredScope (before .0) (scopeIn e) ⌝ }
 {
-    Entry {
-        maker: e.maker,
-        holder: e.holder,
-        cell: e.cell,
-        first: e.first,
-        last: before.0,
-        handed: e.handed,
-        count: one_less(e.count),
-    }
+    let mut r = e;
+    r.last = before;
+    r.count = one_less(e.count);
+    r
 }

@@ -3,6 +3,7 @@ ghost use mathlib.Core.Path.{_≡_};
 ghost use lib.ListN.{length};
 ghost use Rattle.rows.specs.Meaning.{meant};
 ghost use Rattle.tables_model.specs.Visits.{withUsed};
+ghost use Rattle.tables_model.specs.Table.{among};
 ghost use Rattle.tables_model.specs.Rows.{Ready, Steps, MayChange, index, afterHandOver, afterChange, afterUndo, afterEnd, stepBy};
 use crate::lookup::highest;
 use crate::updates::end_visit;
@@ -16,6 +17,7 @@ use rows::Cell;
 use rows::Lsn;
 use rows::Row;
 use rows::Visit;
+use tables_model::CellSet;
 use tables_model::Found;
 use tables_model::Tables;
 use tables_model::Whom;
@@ -42,11 +44,11 @@ fn after_change(t: Tables, scopes: &mut [u16], n: Lsn, v: Visit, c: Cell) -> Tab
     with_used(t, used)
 }
 
-fn after_hand_over(t: Tables, scopes: &mut [u16], g: Visit, r: Visit, c: Cell) -> Tables
+fn after_hand_over(t: Tables, scopes: &mut [u16], g: Visit, r: Visit, cs: CellSet) -> Tables
     requires { ⌜ Ready t (length (now scopes)) ⌝ }
-    ensures { λ x. ⌜ index x (now (scopes .exit)) ≡ afterHandOver (index t (now (scopes .entry))) (g .0) (r .0) (c .0) ⌝ }
+    ensures { λ x. ⌜ index x (now (scopes .exit)) ≡ afterHandOver (index t (now (scopes .entry))) (g .0) (r .0) (among cs) ⌝ }
 {
-    hand_over(scopes, t.used, g, r, c);
+    hand_over(scopes, t.used, g, r, cs);
     t
 }
 
@@ -82,7 +84,7 @@ pub fn step(t: Tables, scopes: &mut [u16], n: Lsn, row: Row, before: Lsn) -> Tab
     match row {
         Row::Begin(v) => with_begun(t, v),
         Row::Change(v, c, _) => after_change(t, scopes, n, v, c),
-        Row::HandOver(g, r, c) => after_hand_over(t, scopes, g, r, c),
+        Row::HandOver(g, r, c) => after_hand_over(t, scopes, g, r, CellSet::Only(c)),
         Row::Undo(h, _, _, _) => after_undo(t, scopes, h, before),
         Row::Commit(v) => after_end(t, scopes, v),
         Row::Abort(v) => after_end(t, scopes, v),

@@ -6,7 +6,7 @@ ghost use Rattle.book.specs.Scopes.{unused as unusedScope};
 ghost use Rattle.tables_model.specs.declared.Found.the-variants.{At};
 ghost use Rattle.tables_model.specs.Entries.{Sized, Inside, entries as entriesOf};
 ghost use Rattle.tables_model.specs.Table.{scopesIn, MayNote, Moves, ClosedRanks, scopesChanged};
-ghost use Rattle.tables_model.specs.Table.{scopesHanded, scopesEnded, handedOn, movedAt, undoneAt};
+ghost use Rattle.tables_model.specs.Table.{among, scopesHanded, scopesEnded, handedOn, movedAt, undoneAt};
 use crate::entries::entry_at;
 use crate::entries::put_entry;
 use crate::lookup::find_growing;
@@ -18,6 +18,7 @@ use crate::scopes::unused;
 use rows::Cell;
 use rows::Lsn;
 use rows::Visit;
+use tables_model::CellSet;
 use tables_model::Found;
 
 // A change in row n grows the scope that may grow, or starts one behind the last. Returns the entries then in use.
@@ -39,24 +40,24 @@ pub fn note_change(t: &mut [u16], used: usize, n: Lsn, v: Visit, c: Cell) -> usi
     }
 }
 
-// Entry i passes to the receiver, if the giver holds it for the cell.
-fn hand_entry(t: &mut [u16], i: usize, g: Visit, r: Visit, c: Cell)
+// Entry i passes to the receiver, if the giver holds it for these cells.
+fn hand_entry(t: &mut [u16], i: usize, g: Visit, r: Visit, cs: CellSet)
     requires { ⌜ Inside (length (now t)) i ⌝ }
     ensures { λ _. ⌜ entriesOf (now (t .exit))
-        ≡ set (entriesOf (now (t .entry))) i (handedOn (g .0) (r .0) (c .0) (getD (entriesOf (now (t .entry))) i unusedScope)) ⌝ }
+        ≡ set (entriesOf (now (t .entry))) i (handedOn (g .0) (r .0) (among cs) (getD (entriesOf (now (t .entry))) i unusedScope)) ⌝ }
 {
     let e = entry_at(t, i);
-    put_entry(t, i, handed_on(e, g, r, c));
+    put_entry(t, i, handed_on(e, g, r, cs));
 }
 
-// A hand-over: every entry of the cell that the giver holds passes to the receiver.
-pub fn hand_over(t: &mut [u16], used: usize, g: Visit, r: Visit, c: Cell)
+// A hand-over: every entry of these cells that the giver holds passes to the receiver.
+pub fn hand_over(t: &mut [u16], used: usize, g: Visit, r: Visit, cs: CellSet)
     requires { ⌜ Sized (length (now t)) used ⌝ }
-    ensures { λ _. ⌜ entriesOf (now (t .exit)) ≡ scopesHanded used (g .0) (r .0) (c .0) (entriesOf (now (t .entry))) ⌝ }
+    ensures { λ _. ⌜ entriesOf (now (t .exit)) ≡ scopesHanded used (g .0) (r .0) (among cs) (entriesOf (now (t .entry))) ⌝ }
 {
     let mut i: usize = 0;
     while i < used {
-        hand_entry(t, i, g, r, c);
+        hand_entry(t, i, g, r, cs);
         i += 1;
     }
 }
@@ -76,7 +77,7 @@ fn move_entry(t: &mut [u16], kept: usize, i: usize, v: Visit) -> usize
     ensures { λ r. ⌜ scopesIn r (now (t .exit)) ≡ movedAt (v .0) i (scopesIn kept (now (t .entry))) ⌝ }
 {
     let e = entry_at(t, i);
-    if e.holder == v.0 {
+    if e.holder.0 == v.0 {
         return kept;
     }
     put_entry(t, kept, e);

@@ -14,32 +14,26 @@ mul-t4 c = search needs
 shared-slice-read-t6 : tie.Need-shared-slice-read-t6
 shared-slice-read-t6 c = search needs
 
-add-t7 : tie.Need-add-t7
-add-t7 c = search needs
+add-t8 : tie.Need-add-t8
+add-t8 c = search needs
 
-mul-t8 : tie.Need-mul-t8
-mul-t8 c = search needs
+mul-t9 : tie.Need-mul-t9
+mul-t9 c = search needs
 
-shared-slice-read-t10 : tie.Need-shared-slice-read-t10
-shared-slice-read-t10 c = search needs
+shared-slice-read-t11 : tie.Need-shared-slice-read-t11
+shared-slice-read-t11 c = search needs
 
-add-t11 : tie.Need-add-t11
-add-t11 c = search needs
+add-low : tie.Need-add-low
+add-low c = search needs
 
-mul-t12 : tie.Need-mul-t12
-mul-t12 c = search needs
+mul-low : tie.Need-mul-low
+mul-low c = search needs
 
-shared-slice-read-t14 : tie.Need-shared-slice-read-t14
-shared-slice-read-t14 c = search needs
+shared-slice-read-low : tie.Need-shared-slice-read-low
+shared-slice-read-low c = search needs
 
-add-t15 : tie.Need-add-t15
-add-t15 c = search needs
-
-mul-t16 : tie.Need-mul-t16
-mul-t16 c = search needs
-
-shared-slice-read-t18 : tie.Need-shared-slice-read-t18
-shared-slice-read-t18 c = search needs
+low-requires : tie.Need-low-requires
+low-requires c κs = search needs
 
 add-t19 : tie.Need-add-t19
 add-t19 c = search needs
@@ -50,26 +44,35 @@ mul-t20 c = search needs
 shared-slice-read-t22 : tie.Need-shared-slice-read-t22
 shared-slice-read-t22 c = search needs
 
-add-t23 : tie.Need-add-t23
-add-t23 c = search needs
+add-t24 : tie.Need-add-t24
+add-t24 c = search needs
 
-mul-t24 : tie.Need-mul-t24
-mul-t24 c = search needs
+mul-t25 : tie.Need-mul-t25
+mul-t25 c = search needs
 
-shared-slice-read-t26 : tie.Need-shared-slice-read-t26
-shared-slice-read-t26 c = search needs
+shared-slice-read-t27 : tie.Need-shared-slice-read-t27
+shared-slice-read-t27 c = search needs
 
-add-t28 : tie.Need-add-t28
-add-t28 c = search needs
+add-t29 : tie.Need-add-t29
+add-t29 c = search needs
 
-mul-t29 : tie.Need-mul-t29
-mul-t29 c = search needs
+mul-t30 : tie.Need-mul-t30
+mul-t30 c = search needs
 
-shared-slice-read-t31 : tie.Need-shared-slice-read-t31
-shared-slice-read-t31 c = search needs
+shared-slice-read-t32 : tie.Need-shared-slice-read-t32
+shared-slice-read-t32 c = search needs
+
+add-t34 : tie.Need-add-t34
+add-t34 c = search needs
+
+mul-t35 : tie.Need-mul-t35
+mul-t35 c = search needs
+
+shared-slice-read-t37 : tie.Need-shared-slice-read-t37
+shared-slice-read-t37 c = search needs
 
 returns : tie.Need-returns
-returns c = rw (entries-at _ _ (c .before .before .before .before .before .before .before .pre .below), add-zero)
+returns c = rw (entries-at _ _ (c .before .before .before .before .before .before .before .before .before .pre .below), add-zero, c .before .before .before .before .low .ensures)
 
 pub entry-at-spec : {M : Type 1} → statement M
 entry-at-spec =
@@ -78,22 +81,23 @@ entry-at-spec =
     mul-at
     mul-t4
     shared-slice-read-t6
-    add-t7
-    mul-t8
-    shared-slice-read-t10
-    add-t11
-    mul-t12
-    shared-slice-read-t14
-    add-t15
-    mul-t16
-    shared-slice-read-t18
+    add-t8
+    mul-t9
+    shared-slice-read-t11
+    add-low
+    mul-low
+    shared-slice-read-low
+    low-requires
     add-t19
     mul-t20
     shared-slice-read-t22
-    add-t23
-    mul-t24
-    shared-slice-read-t26
-    add-t28
-    mul-t29
-    shared-slice-read-t31
+    add-t24
+    mul-t25
+    shared-slice-read-t27
+    add-t29
+    mul-t30
+    shared-slice-read-t32
+    add-t34
+    mul-t35
+    shared-slice-read-t37
     returns)

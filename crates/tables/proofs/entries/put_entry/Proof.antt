@@ -27,6 +27,9 @@ mul-t-2 c = search needs
 slice-write-t-2 : tie.Need-slice-write-t-2
 slice-write-t-2 c = simp length-set (omega arith)
 
+cast-t : tie.Need-cast-t
+cast-t c = search needs
+
 add-t-2 : tie.Need-add-t-2
 add-t-2 c = search needs
 
@@ -77,12 +80,12 @@ same-length c = search needs
 
 returns : tie.Need-returns
 returns c =
-    let s = c .before .before in
+    let s = c .before .before .before in
     let t = s .args .t .now in
     let e = s .args .e in
     let m = s .pre in
-    rw (c .flag-of .ensures)
-    (stores-set t (s .args .i) (e .maker) (e .holder) (e .cell) (e .first) (e .last) (e .count) (e .handed) (m .below) (m .long))
+    rw (c .before .flag-of .ensures)
+    (stores-set t (s .args .i) (e .maker .0) (e .holder .0) (e .cell .0) (e .first .0) (e .last .0) (e .count) (e .handed) (m .below) (m .long) (omega arith))
 
 pub put-entry-spec : {M : Type 1} → statement M
 put-entry-spec =
@@ -95,6 +98,7 @@ put-entry-spec =
     add-t
     mul-t-2
     slice-write-t-2
+    cast-t
     add-t-2
     mul-t-3
     slice-write-t-3

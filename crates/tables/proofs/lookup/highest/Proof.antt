@@ -14,7 +14,7 @@ use Rattle.tables.proofs.lookup.highest.Tie as tie
 abbrev Inv-loop : tie.InvT-loop
 Inv-loop t used w best₀ i₀ best i =
     let ss = entries t in
-    (i ≤ used) × (highestFrom w 0 0 (best₀ .at) (take used ss) ≡ highestFrom w i (best .last) (best .at) (left used i ss))
+    (i ≤ used) × (highestFrom w 0 0 (best₀ .at) (take used ss) ≡ highestFrom w i (best .last .0) (best .at) (left used i ss))
 
 abbrev μ-loop : tie.MeasureT-loop
 μ-loop t used w best₀ i₀ best i = used - i

@@ -7,19 +7,19 @@ use lib.ListN.{getD, take}
 use Rattle.book.specs.Scopes.{unused}
 use Rattle.book.specs.Lists.{any}
 use Rattle.tables_model.specs.Entries.{entries}
-use Rattle.tables_model.specs.Table.{isHeld, holdsCell}
+use Rattle.tables_model.specs.Table.{among, isHeld, holdsCell}
 use Rattle.tables.proofs.Loops.{left, left-end}
 use Rattle.tables.proofs.Searches.{any-next}
 use Rattle.tables.proofs.lookup.holds_cell.Statement.{statement}
 use Rattle.tables.proofs.lookup.holds_cell.Tie as tie
 
 abbrev Inv-loop : tie.InvT-loop
-Inv-loop t used v c i₀ i =
-    let p = isHeld (v .0) (c .0) in
+Inv-loop t used v cs i₀ i =
+    let p = isHeld (v .0) (among cs) in
     (i ≤ used) × (any p (take used (entries t)) ≡ any p (left used i (entries t)))
 
 abbrev μ-loop : tie.MeasureT-loop
-μ-loop t used v c i₀ i = used - i
+μ-loop t used v cs i₀ i = used - i
 
 loop-holds : tie.Need-loop-holds Inv-loop μ-loop
 loop-holds c = (omega arith, refl)
@@ -34,13 +34,13 @@ is-held-requires c κs = tt
 turn : (c : tie.After-is-held Inv-loop μ-loop) →
     let s = c .before .before .before .before .before in
     let l = c .before .before .before .loop in
-    let p = isHeld (s .args .v .0) (s .args .c .0) in
+    let p = isHeld (s .args .v .0) (among (s .args .cs)) in
     let ss = entries (s .args .t .now) in
     any p (left (s .args .used) (l .i) ss) ≡ c .is-held .result || any p (left (s .args .used) (l .i + 1) ss)
 turn c =
     let s = c .before .before .before .before .before in
     let l = c .before .before .before .loop in
-    let p = isHeld (s .args .v .0) (s .args .c .0) in
+    let p = isHeld (s .args .v .0) (among (s .args .cs)) in
     let e : p (getD (entries (s .args .t .now)) (l .i) unused) ≡ c .is-held .result = rw (← c .before .entry-at .ensures) (sym (c .is-held .ensures)) in
     any-next (s .args .t .now) (s .args .used) (l .i) (c .before .before .loop-test .taken) (s .pre .within) p (c .is-held .result) e
 

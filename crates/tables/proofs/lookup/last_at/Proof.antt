@@ -18,7 +18,7 @@ enum-told : tie.Need-enum-told
 enum-told c = search needs
 
 returns : tie.Need-returns
-returns c = rw (c .before .before .found .given .1, ← c .entry-at .ensures)
+returns c = rw (c .before .before .before .found .given .1, ← c .before .entry-at .ensures)
 
 returns-2 : tie.Need-returns-2
 returns-2 c = search needs

@@ -10,7 +10,7 @@ enum-told : tie.Need-enum-told
 enum-told c = search needs
 
 returns : tie.Need-returns
-returns c = rw (c .before .before .w .given .1)
+returns c = rw (c .before .before .before .w .given .1)
 
 returns-2 : tie.Need-returns-2
 returns-2 c = search needs

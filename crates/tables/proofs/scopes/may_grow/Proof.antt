@@ -1,11 +1,7 @@
 -- `tables::scopes::may_grow` meets its contract. Assumes nothing.
 use borrow.Author.Tests.{eq-eqb, ne-eqb}
-use borrow.Author.Needs.{needs}
 use Rattle.tables.proofs.scopes.may_grow.Statement.{statement}
 use Rattle.tables.proofs.scopes.may_grow.Tie as tie
-
-cast-if2 : tie.Need-cast-if2
-cast-if2 c = search needs
 
 returns : tie.Need-returns
 returns c = rw (eq-eqb _ _ (c .before .before .before .before .if1 .taken), eq-eqb _ _ (c .before .if2 .taken))
@@ -17,4 +13,4 @@ returns-3 : tie.Need-returns-3
 returns-3 c = rw (ne-eqb _ _ (c .if1 .left))
 
 pub may-grow-spec : {M : Type 1} → statement M
-may-grow-spec = tie.close (tie.spec cast-if2 returns returns-2 returns-3)
+may-grow-spec = tie.close (tie.spec returns returns-2 returns-3)

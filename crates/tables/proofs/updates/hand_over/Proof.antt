@@ -4,7 +4,7 @@ use mathlib.Core.Path.{_≡_, refl, _∙_}
 use native.Mathlib.Omega.{arith}
 use lib.ListN.{length}
 use Rattle.book.specs.Scopes.{unused}
-use Rattle.tables_model.specs.Table.{handedOn, scopesHanded}
+use Rattle.tables_model.specs.Table.{among, handedOn, scopesHanded}
 use Rattle.tables_model.specs.Entries.{entries}
 use Rattle.tables.proofs.Loops.{mapped, mapped-next}
 use Rattle.tables.proofs.Flat.{entries-length}
@@ -12,10 +12,10 @@ use Rattle.tables.proofs.updates.hand_over.Statement.{statement}
 use Rattle.tables.proofs.updates.hand_over.Tie as tie
 
 abbrev Inv-loop : tie.InvT-loop
-Inv-loop t₀ used g r c i₀ t i = (i ≤ used) × (length t ≡ length t₀) × (entries t ≡ mapped (handedOn (g .0) (r .0) (c .0)) i (entries t₀))
+Inv-loop t₀ used g r cs i₀ t i = (i ≤ used) × (length t ≡ length t₀) × (entries t ≡ mapped (handedOn (g .0) (r .0) (among cs)) i (entries t₀))
 
 abbrev μ-loop : tie.MeasureT-loop
-μ-loop t₀ used g r c i₀ t i = used - i
+μ-loop t₀ used g r cs i₀ t i = used - i
 
 loop-holds : tie.Need-loop-holds Inv-loop μ-loop
 loop-holds c = (omega arith, refl, refl)
@@ -39,7 +39,7 @@ loop-again c =
     let m = c .before .before .hand-entry in
     let ss = entries (s .args .t .now) in
     let h : l .i < length ss = rw entries-length (omega (arith, s .pre .within, c .before .before .before .before .loop-test .taken)) in
-    let turn = mapped-next (handedOn (s .args .g .0) (s .args .r .0) (s .args .c .0)) (l .i) ss unused h in
+    let turn = mapped-next (handedOn (s .args .g .0) (s .args .r .0) (among (s .args .cs))) (l .i) ss unused h in
     (omega arith, m .kept .0 ∙ l .inv .1, rw (m .ensures, l .inv .2) turn)
 
 same-length : tie.Need-same-length Inv-loop μ-loop
