@@ -21,7 +21,8 @@ use Rattle.book.proofs.LogBytes.{log-long}
 use Rattle.book.proofs.Pages.{chart-long}
 use Rattle.tables_model.proofs.WithinLimits.{limited}
 use Rattle.tables_model.specs.Meaning.{scopeTable}
-use Rattle.state.specs.World.{World, rightLengths, scopeOf, tableOf, copyOf, worldOf, Represents}
+use Rattle.tables_model.specs.Entries.{scopeOf}
+use Rattle.state.specs.World.{World, rightLengths, tableOf, copyOf, worldOf, Represents}
 
 pub padded-length : {A : Type 0} (n : ℕ) (d : A) (xs : List A) → length xs ≤ n → length (padTo n d xs) ≡ n
 padded-length n d xs h = let k = length-append xs (replicate (n - length xs) d) in let m = length-replicate (n - length xs) d in omega arith

@@ -12,6 +12,7 @@ use lib.Dec.{eqb, leb, ltb}
 use Rattle.book.specs.Lists.{member}
 use Rattle.book.specs.Limits.{visitLimit, activeLimit, pageLimit}
 use Rattle.book.specs.Rows.{Row, isCell}
+use Rattle.book.specs.Ledger.{only}
 use Rattle.book.specs.Rules.{isActive, scopeFits, room, holdsAny}
 use Rattle.book.specs.Calls.{Call, ending}
 use Rattle.book.specs.Power.{Book, Fuse, ledgerOf}
@@ -45,7 +46,7 @@ refusal-among b (Call.change v c a) =
     (check (not (room (ledgerOf b) 2)) (among refl) (among refl))))
 refusal-among b (Call.handOver g r c) =
     check (not (isActive (ledgerOf b) g)) (among refl) (check (not (isActive (ledgerOf b) r)) (among refl) (check (eqb g r) (among refl)
-    (check (not (isCell c)) (among refl) (check (not (holdsAny (ledgerOf b) g c)) (among refl) (check (not (room (ledgerOf b) 1)) (among refl) (among refl))))))
+    (check (not (isCell c)) (among refl) (check (not (holdsAny (ledgerOf b) g (only c))) (among refl) (check (not (room (ledgerOf b) 1)) (among refl) (among refl))))))
 refusal-among b (Call.commit v) = check (not (isActive (ledgerOf b) v)) (among refl) (among refl)
 refusal-among b (Call.abort v) = check (not (isActive (ledgerOf b) v)) (among refl) (among refl)
 refusal-among b Call.force = among refl

@@ -3,7 +3,7 @@
 use Prim.Native.Nat.{ℕ, suc, _+_, _≤_, _<_}
 use mathlib.Core.Bool.{Bool, true, false, cond, _&&_}
 use mathlib.Core.Path.{_≡_}
-use mathlib.Core.List.{List, [], _∷_, map}
+use mathlib.Core.List.{List, map}
 use lib.ListN.{length, take, replicate}
 use lib.IntN.{ℤ}
 use lib.Dec.{eqb}
@@ -11,7 +11,7 @@ use Rattle.book.specs.Lists.{padTo}
 use Rattle.book.specs.Limits.{logLength, chartsLength, scopeLimit, activeLimit, cellLimit, chartBound, moveBound}
 use Rattle.book.specs.Rows.{Row}
 use Rattle.book.specs.Cells.{lastOn}
-use Rattle.book.specs.Scopes.{Scope as Entry, unused}
+use Rattle.book.specs.Scopes.{unused}
 use Rattle.book.specs.Power.{Book, Fuse as Allowance, none, left, rowsOf, ledgerOf}
 use Rattle.book.specs.Numbers.{within}
 use Rattle.book.specs.LogBytes.{rowsBytes, logBytes}
@@ -20,6 +20,8 @@ use Rattle.book.specs.Opening.{noCopy}
 use Rattle.book.specs.Logs.{Sound}
 use Rattle.tables_model.specs.declared.Scope.{Scope}
 use Rattle.tables_model.specs.declared.Tables.{Tables}
+use Rattle.tables_model.specs.declared.Scope.{Scope}
+use Rattle.tables_model.specs.Entries.{scopeOf}
 use Rattle.tables_model.specs.Visits.{vacant}
 use Rattle.tables_model.specs.Meaning.{tablesOf, scopeTable}
 use Rattle.state.specs.declared.ram.Phase.{Phase}
@@ -61,18 +63,6 @@ fuseOf (left n) = Left n
 abbrev pub allowance : Fuse → Allowance
 allowance Unlimited = none
 allowance (Left n) = left n
-
--- an entry of the scope table as a struct
-abbrev pub scopeOf : Entry → Scope
-scopeOf s = record {
-  maker = record { 0 = s .maker };
-  holder = record { 0 = s .holder };
-  cell = record { 0 = s .cell };
-  first = record { 0 = s .first };
-  last = record { 0 = s .last };
-  handed = s .handed;
-  count = s .count;
-}
 
 abbrev pub noTables : Tables
 noTables = record { begun = 0; active = replicate activeLimit vacant; count = 0; used = 0 }
