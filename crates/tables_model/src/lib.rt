@@ -30,17 +30,6 @@ pub struct Scope {
     pub count: u16, // its changes that are not undone
 }
 
-// An entry of the scope table: changes of one cell by one maker that share a holder.
-pub struct Scope {
-    pub maker: Visit,
-    pub holder: Visit,
-    pub cell: Cell,
-    pub first: Lsn,
-    pub last: Lsn, // the highest of its changes that is not undone, 0 for none
-    pub handed: bool, // it was handed over, so its maker's next change starts another
-    pub count: u16, // its changes that are not undone
-}
-
 // The visits that a take-back is about: abort is about one, an opening about all.
 pub enum Whom {
     One(Visit),
