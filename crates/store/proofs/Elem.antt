@@ -20,9 +20,9 @@ use denote.Steps.{only}
 use lib.ListN.{length}
 use denote.Index.{place, place-is}
 use denote.Struct.Laws as LL
-use Rattle.state.specs.declared.ram.Scope.{Scope}
-use Rattle.state.proofs.ram.Scope as S
-use Rattle.state.proofs.ram.Scope.Laws as S′
+use Rattle.tables_model.specs.declared.Scope.{Scope}
+use Rattle.tables_model.proofs.Scope as S
+use Rattle.tables_model.proofs.Scope.Laws as S′
 
 abbrev pub R : RattleType
 R = S.the-row

@@ -1,4 +1,4 @@
--- What the loops of `load`, `store` and `clear` have at their ends: the limit is 64 at a table of 64 entries, and else 0.
+-- What the loops of `load` and `store` have at their ends: the limit is 64 at a table of 64 entries, and else 0.
 -- Assumes nothing.
 use mathlib.Core.Path.{_≡_, refl, sym, subst}
 use mathlib.Core.Bool.{Bool, true, false, cond}
@@ -8,9 +8,9 @@ use native.Mathlib.Nat.{le-refl}
 use lib.Dec.{eqb}
 use lib.ListN.{length, length-replicate}
 use borrow.Author.Tests.{eqb-true}
-use Rattle.state.specs.declared.ram.Scope.{Scope}
-use Rattle.cores.specs.Lent.{zeroScope, blanks, tableLeft}
-use Rattle.store.specs.Table.{limitOf, loaded, stored, clearLimit}
+use Rattle.tables_model.specs.declared.Scope.{Scope}
+use Rattle.cores.specs.Lent.{zeroScope, blanks}
+use Rattle.store.specs.Table.{limitOf, loaded, stored}
 use Rattle.store.proofs.Fill.{part, part-all}
 
 pub limit-le : (n : ℕ) → limitOf n ≤ n
@@ -40,15 +40,3 @@ store-end ys t f = go (eqb (length ys) 64) refl
     go : (s : Bool) → eqb (length ys) 64 ≡ s → part t ys (cond s 64 0) ≡ cond s t ys
     go true e = part-all t ys 64 f (eqb-true (length ys) 64 e)
     go false e = refl
-
-pub clear-le : (n : ℕ) (clears : Bool) → clearLimit n clears ≤ n
-clear-le n true = limit-le n
-clear-le n false = zero-le
-
-pub clear-64 : (n : ℕ) (clears : Bool) → clearLimit n clears ≤ 64
-clear-64 n true = limit-64 n
-clear-64 n false = zero-le
-
-pub clear-end : (ys : List Scope) (clears : Bool) → part blanks ys (clearLimit (length ys) clears) ≡ tableLeft ys clears
-clear-end ys true = store-end ys blanks (length-replicate 64 zeroScope)
-clear-end ys false = refl

@@ -7,11 +7,8 @@ pub mod Ends
 pub mod Fill
 pub mod Local
 pub mod Locals
-pub mod Parts
 pub mod Plain
 pub mod Promised
 pub mod Shared
-pub mod TheCalls
 pub mod Thin
-pub mod ThinClear
-pub mod ThinClearCells
+pub mod ThinCells

@@ -3,12 +3,11 @@
 use contract.Running.{givenOf, tables, tablesOf}
 use denote.Triple.Spec.{tripleOf}
 use denote.Triple.Table.{entered, cited}
-use Rattle.cores.proofs.outs.out_of_open.Met as out-met
-use Rattle.cores.proofs.outs.out_of_open.Symbol as out-def
 use Rattle.store.proofs.Bridge.{bridge-meets}
-use Rattle.store.proofs.Parts.{Both}
-use Rattle.store.proofs.Promised.{Promise}
-use Rattle.store.proofs.TheCalls.Open.{args, call, on}
+use Rattle.store.proofs.Callees.{known-out-of}
+use Rattle.store.proofs.Locals.{fuse}
+use Rattle.store.proofs.Promised.{opens}
+use Rattle.store.proofs.Thin.{Call}
 use Rattle.store.proofs.bridges.open_on as this
 use Rattle.store.proofs.bridges.open_on.Code as code
 use Rattle.store.proofs.bridges.open_on.Key.{name as key}
@@ -20,6 +19,6 @@ pub open-on-spec : {M : Type 1} → stated.statement M
 unfolding code.routine tablesOf
 open-on-spec 𝓤 H 𝓜 𝓖 𝓡 =
     entered 𝓤 H (tripleOf 𝓤 H (𝓖 .A) this.signature (this.spec 𝓤 H (𝓖 .A) (𝓜 .mem) (𝓡 .run))) (tables 𝓤 H 𝓜 𝓡 code.env .C) (tables 𝓤 H 𝓜 𝓡 code.env .Λ) key code.function (code.unfolded 𝓤 H 𝓜 𝓡)
-    (bridge-meets args call on 𝓤 H (𝓖 .A) (givenOf 𝓤 H 𝓜 𝓖) (tablesOf 𝓤 H 𝓜 (tables 𝓤 H 𝓜 𝓡 code.env))
-    (cited 𝓤 H (Promise args call 𝓤 H (𝓖 .A)) 𝓜 𝓡 code.env call-def.name call-def.routine code.calls-store·public·open (call-met.met 𝓤 H 𝓜 𝓖 𝓡))
-    (cited 𝓤 H (Both (call .result) (on .out) (on .out-of) 𝓤 H (𝓖 .A)) 𝓜 𝓡 code.env out-def.name out-def.routine code.calls-cores·outs·out-of-open (out-met.met 𝓤 H 𝓜 𝓖 𝓡)))
+    (bridge-meets fuse opens call-def.name 𝓤 H (𝓖 .A) (givenOf 𝓤 H 𝓜 𝓖) (𝓜 .mem) (𝓡 .run) (tablesOf 𝓤 H 𝓜 (tables 𝓤 H 𝓜 𝓡 code.env))
+    (cited 𝓤 H (Call fuse opens 𝓤 H (𝓖 .A)) 𝓜 𝓡 code.env call-def.name call-def.routine code.calls-store·public·open (call-met.met 𝓤 H 𝓜 𝓖 𝓡))
+    (known-out-of 𝓤 H 𝓜 𝓖 𝓡 code.env code.calls-cores·outs·out-of))

@@ -1,32 +1,26 @@
--- `store::public::open` meets its contract, by `ThinClear`.
+-- `store::public::open` meets its contract, by `Thin`.
 -- Assumes nothing.
 use contract.Running.{givenOf, tables, tablesOf}
-use denote.Builtin.{bool}
 use denote.Triple.Spec.{tripleOf}
 use denote.Triple.Table.{entered, cited}
 use Rattle.cores.proofs.opening.open_core.Met as core-met
 use Rattle.cores.proofs.opening.open_core.Symbol as core-def
-use Rattle.cores.proofs.outs.clears_of_open.Met as clears-met
-use Rattle.cores.proofs.outs.clears_of_open.Symbol as clears-def
-use Rattle.cores.proofs.outs.result_of_open.Met as result-met
-use Rattle.cores.proofs.outs.result_of_open.Symbol as result-def
-use Rattle.store.proofs.Callees.{Clear}
-use Rattle.store.proofs.Parts.{Part}
-use Rattle.store.proofs.TheCalls.Open.{args, call, core}
-use Rattle.store.proofs.ThinClear.{Core, thin-meets}
+use Rattle.store.proofs.Callees.{known-load, known-store, known-table-of, known-result-of}
+use Rattle.store.proofs.Locals.{fuse}
+use Rattle.store.proofs.Promised.{opens}
+use Rattle.store.proofs.Thin.{Core, thin-meets}
 use Rattle.store.proofs.public.open as this
 use Rattle.store.proofs.public.open.Code as code
 use Rattle.store.proofs.public.open.Key.{name as key}
 use Rattle.store.proofs.public.open.Statement as stated
-use Rattle.store.proofs.table.clear.Met as clear-met
-use Rattle.store.proofs.table.clear.Symbol as clear-def
 
 pub open-spec : {M : Type 1} → stated.statement M
 unfolding code.routine tablesOf
 open-spec 𝓤 H 𝓜 𝓖 𝓡 =
     entered 𝓤 H (tripleOf 𝓤 H (𝓖 .A) this.signature (this.spec 𝓤 H (𝓖 .A) (𝓜 .mem) (𝓡 .run))) (tables 𝓤 H 𝓜 𝓡 code.env .C) (tables 𝓤 H 𝓜 𝓡 code.env .Λ) key code.function (code.unfolded 𝓤 H 𝓜 𝓡)
-    (thin-meets args call core 𝓤 H (𝓖 .A) (givenOf 𝓤 H 𝓜 𝓖) (𝓜 .mem) (𝓡 .run) (tablesOf 𝓤 H 𝓜 (tables 𝓤 H 𝓜 𝓡 code.env))
-    (cited 𝓤 H (Core args call core 𝓤 H (𝓖 .A)) 𝓜 𝓡 code.env core-def.name core-def.routine code.calls-cores·opening·open-core (core-met.met 𝓤 H 𝓜 𝓖 𝓡))
-    (cited 𝓤 H (Part (core .out) bool (core .clears-of) 𝓤 H (𝓖 .A)) 𝓜 𝓡 code.env clears-def.name clears-def.routine code.calls-cores·outs·clears-of-open (clears-met.met 𝓤 H 𝓜 𝓖 𝓡))
-    (cited 𝓤 H (Clear 𝓤 H (𝓖 .A) (𝓜 .mem) (𝓡 .run)) 𝓜 𝓡 code.env clear-def.name clear-def.routine code.calls-store·table·clear (clear-met.met 𝓤 H 𝓜 𝓖 𝓡))
-    (cited 𝓤 H (Part (core .out) (call .result .row) (core .result-of) 𝓤 H (𝓖 .A)) 𝓜 𝓡 code.env result-def.name result-def.routine code.calls-cores·outs·result-of-open (result-met.met 𝓤 H 𝓜 𝓖 𝓡)))
+    (thin-meets fuse opens core-def.name 𝓤 H (𝓖 .A) (givenOf 𝓤 H 𝓜 𝓖) (𝓜 .mem) (𝓡 .run) (tablesOf 𝓤 H 𝓜 (tables 𝓤 H 𝓜 𝓡 code.env))
+    (known-load 𝓤 H 𝓜 𝓖 𝓡 code.env code.calls-store·table·load)
+    (cited 𝓤 H (Core fuse opens 𝓤 H (𝓖 .A)) 𝓜 𝓡 code.env core-def.name core-def.routine code.calls-cores·opening·open-core (core-met.met 𝓤 H 𝓜 𝓖 𝓡))
+    (known-table-of 𝓤 H 𝓜 𝓖 𝓡 code.env code.calls-cores·outs·table-of)
+    (known-store 𝓤 H 𝓜 𝓖 𝓡 code.env code.calls-store·table·store)
+    (known-result-of 𝓤 H 𝓜 𝓖 𝓡 code.env code.calls-cores·outs·result-of))

@@ -45,10 +45,10 @@ use denote.Triple.Statement.{Contract, Triple}
 use denote.Triple.Table.{entered, cited}
 use denote.Triple.Walked.{says, Stays, stay-none-slice, walkOf, goes-none-slice, Walks, ends-at, walked, walk-meets}
 use denote.Exit.{yes}
-use Rattle.state.specs.declared.ram.Scope.{Scope}
+use Rattle.tables_model.specs.declared.Scope.{Scope}
 use Rattle.cores.specs.Lent.{zeroScope, blanks}
 use Rattle.store.specs.Table.{limitOf}
-use Rattle.state.proofs.ram.Scope.Laws as S′
+use Rattle.tables_model.proofs.Scope.Laws as S′
 use Rattle.store.proofs.Calling.{calls-known}
 use Rattle.store.proofs.Elem.{R, val, vals, tells, lies, bytes, copies, made, typed, Tb, tvals, tval, t-made, t-typed}
 use Rattle.store.proofs.Fill.{part, part-more, part-length}
