@@ -10,10 +10,12 @@ ghost use Rattle.tables_model.specs.Entries.{scopeIn};
 ghost use Rattle.tables_model.specs.Meaning.{isChangeBy, beforeLast};
 ghost use Rattle.undo.specs.Looking.{lookUp};
 use journal::Control;
+use rows::Cell;
 use rows::Row;
 use rows::Visit;
+use rows::numbers::wide;
 use rows::reader::row_in;
-use tables_model::Entry;
+use tables_model::Scope;
 
 // Row n, counted from 1. Of no such row any will do.
 pub fn row_at(c: Control, log: &[u8], tail: &[u8], n: usize) -> Row
@@ -38,22 +40,22 @@ pub fn row_at(c: Control, log: &[u8], tail: &[u8], n: usize) -> Row
 }
 
 // The 16 bytes are a change of the cell by the maker: kind, visit and cell alone are looked at.
-pub fn is_change_by(b: &[u8], maker: u16, cell: u16) -> bool
+pub fn is_change_by(b: &[u8], maker: Visit, cell: Cell) -> bool
     requires { ⌜ length (now b) ≡ 16 ⌝ }
-    ensures { λ r. ⌜ r ≡ isChangeBy maker cell (rowOf (now (b .entry))) ⌝ }
+    ensures { λ r. ⌜ r ≡ isChangeBy (maker .0) (cell .0) (rowOf (now (b .entry))) ⌝ }
 {
     if b[0] == 2 {
-        if rows::numbers::wide(b[1]) == maker {
-            return rows::numbers::wide(b[3]) == cell;
+        if wide(b[1]) == maker.0 {
+            return b[3] == cell.0;
         }
     }
     false
 }
 
 // Row n is such a change.
-fn changes_at(c: Control, log: &[u8], tail: &[u8], n: usize, maker: u16, cell: u16) -> bool
+fn changes_at(c: Control, log: &[u8], tail: &[u8], n: usize, maker: Visit, cell: Cell) -> bool
     requires { ⌜ Sizes c (length (now log)) (length (now tail)) ⌝ }
-    ensures { λ r. ⌜ r ≡ isChangeBy maker cell (lookUp (journal c (now (log .entry)) (now (tail .entry))) n) ⌝ }
+    ensures { λ r. ⌜ r ≡ isChangeBy (maker .0) (cell .0) (lookUp (journal c (now (log .entry)) (now (tail .entry))) n) ⌝ }
 {
     if n == 0 {
         return false;
@@ -73,18 +75,20 @@ fn changes_at(c: Control, log: &[u8], tail: &[u8], n: usize, maker: u16, cell: u
 }
 
 // The change before the scope's last one, 0 for none: a search downwards, to the scope's first row.
-pub fn before_last(c: Control, log: &[u8], tail: &[u8], s: Entry) -> usize
+pub fn before_last(c: Control, log: &[u8], tail: &[u8], s: Scope) -> usize
     requires { ⌜ Sizes c (length (now log)) (length (now tail)) ⌝ }
-    ensures { λ r. ⌜ (r ≡ beforeLast (lookUp (journal c (now (log .entry)) (now (tail .entry)))) (scopeIn s)) × (r ≤ s .last) ⌝ }
+    ensures { λ r. ⌜ (r ≡ beforeLast (lookUp (journal c (now (log .entry)) (now (tail .entry)))) (scopeIn s)) × (r ≤ s .last .0) ⌝ }
 {
-    let first = s.first as usize;
-    let mut n = s.last as usize;
+    let maker = s.maker;
+    let cell = s.cell;
+    let first = s.first.0 as usize;
+    let mut n = s.last.0 as usize;
     while 0 < n {
         n -= 1;
         if n < first {
             return 0;
         }
-        if changes_at(c, log, tail, n, s.maker, s.cell) {
+        if changes_at(c, log, tail, n, maker, cell) {
             return n;
         }
     }

@@ -53,16 +53,12 @@ fn fall(
         ≡ fallen i (taking c (now (log .entry)) (now (tail .entry)) (now (copy .entry)) (now (scopes .entry))) ⌝ }
 {
     let s = entry_at(scopes, i);
-    let row = row_at(c, log, tail, s.last as usize);
+    let holder = s.holder;
+    let last = s.last;
+    let row = row_at(c, log, tail, last.0 as usize);
     let before = before_last(c, log, tail, s);
     undo_at(scopes, i, Lsn(before as u16));
-    write(
-        c,
-        log,
-        tail,
-        copy,
-        undo_row(Visit(s.holder), Lsn(s.last), row),
-    )
+    write(c, log, tail, copy, undo_row(holder, last, row))
 }
 
 // The entry whose last change falls next; none once the journal is closed.

@@ -11,12 +11,12 @@ use Rattle.undo.proofs.look.before_last.Statement.{statement}
 use Rattle.undo.proofs.look.before_last.Tie as tie
 
 abbrev Inv-loop : tie.InvT-loop
-Inv-loop c log tail s first n₀ n =
+Inv-loop c log tail maker cell first n₀ n =
     let look = lookUp (journal c log tail) in
-    (n ≤ n₀) × (previous look (s .maker) (s .cell) (s .first) n₀ ≡ previous look (s .maker) (s .cell) (s .first) n)
+    (n ≤ n₀) × (previous look (maker .0) (cell .0) first n₀ ≡ previous look (maker .0) (cell .0) first n)
 
 abbrev μ-loop : tie.MeasureT-loop
-μ-loop c log tail s first n₀ n = n
+μ-loop c log tail maker cell first n₀ n = n
 
 cast-first : tie.Need-cast-first Inv-loop μ-loop
 cast-first c = search needs
@@ -32,16 +32,16 @@ sub-n c = omega arith
 
 returns : tie.Need-returns Inv-loop μ-loop
 returns c =
-    let a = (c .before .before .before .before .before .before .before .args) in
+    let a = (c .before .before .before .before .before .before .before .before .before .args) in
     let l = (c .before .before .loop) in
     (sym (l .inv .1 ∙ stops (lookUp (journal (a .c) (a .log .now) (a .tail .now))) _ _ _ (l .n - 1) (l .n) (omega arith) (c .if1 .taken)), omega arith)
 
 changes-at-requires : tie.Need-changes-at-requires Inv-loop μ-loop
-changes-at-requires c κs = (c .before .before .before .before .before .before .before .pre)
+changes-at-requires c κs = (c .before .before .before .before .before .before .before .before .before .pre)
 
 returns-2 : tie.Need-returns-2 Inv-loop μ-loop
 returns-2 c =
-    let a = (c .before .before .before .before .before .before .before .before .before .args) in
+    let a = (c .before .before .before .before .before .before .before .before .before .before .before .args) in
     let l = (c .before .before .before .before .loop) in
     let j = journal (a .c) (a .log .now) (a .tail .now) in
     (sym (l .inv .1 ∙ finds (lookUp j) _ _ _ (l .n - 1) (l .n) (omega arith) (c .before .before .if1 .left) (rw (no-row-zero j 0 refl)) (sym (c .before .changes-at .ensures) ∙ (c .if2 .taken))), omega arith)
@@ -51,7 +51,7 @@ loop-less c = omega arith
 
 loop-again : tie.Need-loop-again Inv-loop μ-loop
 loop-again c =
-    let a = (c .before .before .before .before .before .before .before .before .before .args) in
+    let a = (c .before .before .before .before .before .before .before .before .before .before .before .args) in
     let l = (c .before .before .before .before .loop) in
     let j = journal (a .c) (a .log .now) (a .tail .now) in
     (omega arith, l .inv .1 ∙ passes (lookUp j) _ _ _ (l .n - 1) (l .n) (omega arith) (c .before .before .if1 .left) (sym (c .before .changes-at .ensures) ∙ (c .if2 .left)))

@@ -1,12 +1,11 @@
 -- `undo::take_back::fall` meets its contract. Assumes nothing.
 use mathlib.Core.Path.{ap, _∙_}
+use borrow.Author.Needs.{needs}
 use Rattle.rows.specs.Meaning.{meant}
 use Rattle.rows.proofs.Meanings.{meant-coded}
 use Rattle.journal.specs.Journal.{journal}
 use Rattle.undo.specs.Looking.{lookUp}
 use Rattle.undo.specs.TakeBack.{fallen}
-use mathlib.Core.Path.{ap, _∙_}
-use borrow.Author.Needs.{needs}
 use Rattle.undo.proofs.take_back.fall.Statement.{statement}
 use Rattle.undo.proofs.take_back.fall.Tie as tie
 
@@ -22,8 +21,8 @@ row-at-requires c κs = search needs
 before-last-requires : tie.Need-before-last-requires
 before-last-requires c κs = search needs
 
-cast-t24 : tie.Need-cast-t24
-cast-t24 c = search needs
+cast-t26 : tie.Need-cast-t26
+cast-t26 c = search needs
 
 undo-at-requires : tie.Need-undo-at-requires
 undo-at-requires c κs = search needs
@@ -49,9 +48,21 @@ same-length-4 c = search needs
 returns : tie.Need-returns
 unfolding fallen
 returns c =
-    let a = (c .before .before .before .before .before .before .before .before .before .before .before .before .before .before .before .before .before .before .before .before .before .before .before .before .before .before .before .before .args) in
-    let looked = ap meant (c .before .before .before .before .before .before .before .before .before .before .before .before .before .before .before .before .before .before .row-at .ensures) ∙ meant-coded (lookUp (journal (a .c) (a .log .now) (a .tail .now)) (c .before .before .before .before .before .before .before .before .before .before .before .before .before .before .before .before .before .before .before .before .before .before .entry-at .result .last)) in
-    rw ((c .before .before .before .before .before .before .before .before .before .before .before .before .before .undo-at .ensures), ← (c .before .before .before .before .before .before .before .before .before .before .before .before .before .before .before .before .before .before .before .before .before .before .entry-at .ensures), ← (c .before .before .before .before .before .before .before .before .before .before .before .before .before .before .before .before-last .ensures .0), ← looked, ← (c .before .before .before .before .before .before .before .undo-row .ensures), ← (c .before .before .before .before .before .before .write .ensures))
+    let w = c .before .before .before .before .before .before in
+    let u = w .before .before .before .before .before .before .before in
+    let b = u .before .before in
+    let r = b .before .before .before in
+    let e = r .before .before .before .before .before .before in
+    let a = e .before .before .before .before .before .before .args in
+    let looked = ap meant (r .row-at .ensures) ∙ meant-coded (lookUp (journal (a .c) (a .log .now) (a .tail .now)) (e .entry-at .result .last .0)) in
+    rw (
+      u .undo-at .ensures,
+      ← (e .entry-at .ensures),
+      ← (b .before-last .ensures .0),
+      ← looked,
+      ← (w .before .undo-row .ensures),
+      ← (w .write .ensures),
+    )
 
 pub fall-spec : {M : Type 1} → statement M
 fall-spec =
@@ -61,7 +72,7 @@ fall-spec =
     cast-row-at
     row-at-requires
     before-last-requires
-    cast-t24
+    cast-t26
     undo-at-requires
     undo-row-requires
     write-requires
