@@ -10,7 +10,7 @@ use Rattle.book.specs.Rows as book
 use Rattle.rows.specs.Reading.{isBlank, readOf}
 use Rattle.rows.specs.Meaning.{meant}
 use Rattle.rows.specs.declared.Read.{Read}
-use Rattle.rows.specs.declared.Read.the-variants.{Valid, Blank, Malformed}
+use Rattle.rows.specs.declared.Read.the-variants.{Valid, Blank, Malformed, OutOfRange}
 use Rattle.tables_model.specs.declared.Verdict.{Verdict}
 use Rattle.tables_model.specs.declared.Verdict.the-variants.{Allowed, Unlawful, OverLimit}
 use Rattle.tables_model.specs.Visits.{InRange, noTables}
@@ -76,6 +76,7 @@ module _ (log : List ℕ) (k : ℕ) (x : Index) (h : InRange (x .tables)) where
   read-range : (b : Read) → InRange (judgedRead log k x b .index .tables)
   read-range Blank = h
   read-range Malformed = h
+  read-range OutOfRange = h
   read-range (Valid row) = let named = rowIn log k (book.undoneBy (meant row)) in ruled-range named (meant row) (judgeBy x k named (meant row)) refl
 
   pub judged-range : InRange (judgeRow log k x .index .tables)

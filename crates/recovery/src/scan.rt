@@ -74,6 +74,10 @@ fn judge_row(log: &[u8], k: usize, t: Tables, scopes: &mut [u16]) -> JudgedRow
             judged: Judged::Bad(Reason::Bytes),
             tables: t,
         },
+        Read::OutOfRange => JudgedRow {
+            judged: Judged::Bad(Reason::Rule),
+            tables: t,
+        },
     }
 }
 

@@ -19,9 +19,9 @@ use Rattle.book.proofs.Lists.{clash, and-i, and-l, and-r}
 use Rattle.book.proofs.Logs.{allowed-append, ledger-append}
 use Rattle.book.proofs.RowBytes.{row-exact}
 use Rattle.book.proofs.LogBytes.{rows-long, judge-exact}
-use Rattle.rows.specs.declared.Read.the-variants.{Valid, Malformed}
+use Rattle.rows.specs.declared.Read.the-variants.{Valid}
 use Rattle.rows.specs.Meaning.{coded}
-use Rattle.rows.specs.Reading.{readOf, isBlank}
+use Rattle.rows.specs.Reading.{readBy, readOf, isBlank}
 use Rattle.rows.proofs.Meanings.{meant-coded}
 use Rattle.rows.proofs.RoundTrip.{read-blank, read-zero, read-kind}
 use Rattle.tables_model.specs.declared.Verdict.the-variants.{Allowed, Unlawful, OverLimit}
@@ -111,7 +111,7 @@ module _ (rs : List Row) (al : allowedLog rs ≡ true) (log bs : List ℕ) (is :
       ap (ruled log (length rs) before next) (judge-by rs al next (rowIn log (length rs) (undoneBy next)) (looks (undoneBy next)))
 
   row-kind : 1 ≤ getD bs 0 0 → judgeRow log (length rs) before
-      ≡ judgedRead log (length rs) before (cond (isRowBytes (suc (length rs)) (take 16 bs) && fits next) (Valid (coded next)) Malformed)
+      ≡ judgedRead log (length rs) before (readBy (isRowBytes (suc (length rs)) (take 16 bs)) (fits next) (take 16 bs))
   unfolding next
   row-kind h = read-here ∙ ap (judgedRead log (length rs) before) (read-kind (suc (length rs)) (take 16 bs) (rw top h))
 
@@ -138,9 +138,9 @@ module _ (rs : List Row) (al : allowedLog rs ≡ true) (log bs : List ℕ) (is :
       go : (s f t u : Bool)
           → judgedRead log (length rs) before (Valid (coded next)) ≡ ruled log (length rs) before next (cond t (cond u Allowed OverLimit) Unlawful)
           → eqb (tested s f t u) 0 ≡ false
-          → Refused (judgedRead log (length rs) before (cond (s && f) (Valid (coded next)) Malformed)) before (tested s f t u)
+          → Refused (judgedRead log (length rs) before (readBy s f (take 16 bs))) before (tested s f t u)
       go false f t u valid e = record { why = Bytes; is = refl; number = refl }
-      go true false t u valid e = record { why = Bytes; is = refl; number = refl }
+      go true false t u valid e = record { why = Rule; is = refl; number = refl }
       go true true false u valid e = record { why = Rule; is = valid; number = refl }
       go true true true false valid e = record { why = Limit; is = valid; number = refl }
       go true true true true valid e = clash true refl e

@@ -7,7 +7,7 @@ use Rattle.book.specs.Limits.{rowLimit}
 use Rattle.book.specs.Rows as book
 use Rattle.book.specs.RowBytes.{rowOf}
 use Rattle.rows.specs.declared.Read.{Read}
-use Rattle.rows.specs.declared.Read.the-variants.{Valid, Blank, Malformed}
+use Rattle.rows.specs.declared.Read.the-variants.{Valid, Blank, Malformed, OutOfRange}
 use Rattle.rows.specs.Meaning.{meant}
 use Rattle.rows.specs.Reading.{readOf, isBlank}
 use Rattle.tables_model.specs.declared.Verdict.{Verdict}
@@ -43,6 +43,7 @@ ruled log k x r OverLimit = record { judged = Bad Limit; index = x }
 abbrev pub judgedRead : List ℕ → ℕ → Index → Read → Judgement
 judgedRead log k x Blank = record { judged = Ends; index = x }
 judgedRead log k x Malformed = record { judged = Bad Bytes; index = x }
+judgedRead log k x OutOfRange = record { judged = Bad Rule; index = x }
 judgedRead log k x (Valid row) = let r : book.Row = meant row in ruled log k x r (judgeBy x k (rowIn log k (book.undoneBy r)) r)
 
 -- row k + 1 of the log, after k rows

@@ -5,7 +5,7 @@ ghost use Rattle.state.specs.Requests.{callOf};
 ghost use Rattle.state.specs.World.{world, allowance};
 use crate::table::load;
 use crate::table::store;
-use cores::calls::call_core;
+use cores::call::call_core;
 use cores::opening::format_core;
 use cores::opening::open_core;
 use cores::outs::result_of;

@@ -44,6 +44,9 @@ enum-told c = search needs
 enum-told-2 : tie.Need-enum-told-2
 enum-told-2 c = search needs
 
+enum-told-3 : tie.Need-enum-told-3
+enum-told-3 c = search needs
+
 same-length : tie.Need-same-length
 same-length c = search needs
 
@@ -71,6 +74,14 @@ returns-3 c =
     let e : 16 * k + 16 - 16 * k ≡ 16 = omega arith in
     rw (rw (e, add-one k) at (sym (r .read-row .ensures) ∙ c .enum-told2 .given .1))
 
+returns-4 : tie.Need-returns-4
+unfolding judgeRow
+returns-4 c =
+    let r = c .before .before in
+    let k = r .before .before .before .before .args .k in
+    let e : 16 * k + 16 - 16 * k ≡ 16 = omega arith in
+    rw (rw (e, add-one k) at (sym (r .read-row .ensures) ∙ c .enum-told3 .given .1))
+
 pub judge-row-spec : {M : Type 1} → statement M
 judge-row-spec =
     tie.close
@@ -87,7 +98,9 @@ judge-row-spec =
     take-row-requires
     enum-told
     enum-told-2
+    enum-told-3
     same-length
     returns
     returns-2
-    returns-3)
+    returns-3
+    returns-4)

@@ -3,8 +3,8 @@
 use contract.Running.{givenOf, tables, tablesOf}
 use denote.Triple.Spec.{tripleOf}
 use denote.Triple.Table.{entered, cited}
-use Rattle.cores.proofs.calls.call_core.Met as core-met
-use Rattle.cores.proofs.calls.call_core.Symbol as core-def
+use Rattle.cores.proofs.call.call_core.Met as core-met
+use Rattle.cores.proofs.call.call_core.Symbol as core-def
 use Rattle.store.proofs.Callees.{known-load, known-store, known-table-of, known-result-of}
 use Rattle.store.proofs.Locals.{request}
 use Rattle.store.proofs.Promised.{calls}
@@ -20,7 +20,7 @@ call-spec 𝓤 H 𝓜 𝓖 𝓡 =
     entered 𝓤 H (tripleOf 𝓤 H (𝓖 .A) this.signature (this.spec 𝓤 H (𝓖 .A) (𝓜 .mem) (𝓡 .run))) (tables 𝓤 H 𝓜 𝓡 code.env .C) (tables 𝓤 H 𝓜 𝓡 code.env .Λ) key code.function (code.unfolded 𝓤 H 𝓜 𝓡)
     (thin-meets request calls core-def.name 𝓤 H (𝓖 .A) (givenOf 𝓤 H 𝓜 𝓖) (𝓜 .mem) (𝓡 .run) (tablesOf 𝓤 H 𝓜 (tables 𝓤 H 𝓜 𝓡 code.env))
     (known-load 𝓤 H 𝓜 𝓖 𝓡 code.env code.calls-store·table·load)
-    (cited 𝓤 H (Core request calls 𝓤 H (𝓖 .A)) 𝓜 𝓡 code.env core-def.name core-def.routine code.calls-cores·calls·call-core (core-met.met 𝓤 H 𝓜 𝓖 𝓡))
+    (cited 𝓤 H (Core request calls 𝓤 H (𝓖 .A)) 𝓜 𝓡 code.env core-def.name core-def.routine code.calls-cores·call·call-core (core-met.met 𝓤 H 𝓜 𝓖 𝓡))
     (known-table-of 𝓤 H 𝓜 𝓖 𝓡 code.env code.calls-cores·outs·table-of)
     (known-store 𝓤 H 𝓜 𝓖 𝓡 code.env code.calls-store·table·store)
     (known-result-of 𝓤 H 𝓜 𝓖 𝓡 code.env code.calls-cores·outs·result-of))
