@@ -7,9 +7,8 @@ use native.Mathlib.Omega.{arith}
 use lib.ListN.{length, getD, set, replicate}
 use Rattle.book.specs.Lists.{tabulate}
 use Rattle.book.specs.Scopes.{Scope as Entry, unused}
-use Rattle.tables_model.specs.Entries.{entries}
+use Rattle.tables_model.specs.Entries.{entries, scopeOf}
 use Rattle.tables.proofs.Flat.{entries-zero}
-use Rattle.state.specs.World.{scopeOf}
 use Rattle.tables_model.specs.declared.Scope.{Scope}
 use Rattle.calls_model.specs.Perform.{entryIn}
 use Rattle.block.specs.Fields.{part, scopeIn, inUse, allIn, tableIn, SameUse}

@@ -7,6 +7,7 @@ use mathlib.Core.List.{List, map, reverse}
 use Prim.Native.Nat.{ℕ, _-_}
 use lib.IntN.{ℤ, pos}
 use lib.ListN.{length, replicate, length-reverse}
+use Rattle.tables_model.specs.Entries.{scopeOf}
 use Rattle.book.specs.Calls.{Call, ending}
 use Rattle.book.specs.Ledger.{Ledger}
 use Rattle.book.specs.Scopes.{unused, scopesOf}
@@ -14,7 +15,7 @@ use Rattle.book.specs.Power.{Book, ledgerOf}
 use Rattle.book.specs.Book.{Answer, Outcome, call}
 use Rattle.tables_model.specs.Meaning.{tablesOf, scopeTable}
 use Rattle.tables_model.specs.declared.Scope.{Scope}
-use Rattle.state.specs.World.{World, openState, closedState, scopeOf, cleared, worldOf, stateOf as bookState, tableOf as bookTable}
+use Rattle.state.specs.World.{World, openState, closedState, cleared, worldOf, stateOf as bookState, tableOf as bookTable}
 use Rattle.state.specs.Contracts.{Answered, answered, chartsAfter, byBook, CallPost}
 use Rattle.block.specs.Fields.{part, inUse, allIn}
 use Rattle.block.specs.Block.{stateOf, worldIn}

@@ -5,13 +5,13 @@ use mathlib.Core.Path.{_≡_}
 use mathlib.Core.List.{List, [], _∷_}
 use lib.Dec.{eqb}
 use lib.ListN.{length, getD, take, drop, replicate}
+use Rattle.tables_model.specs.Entries.{scopeOf}
 use Rattle.book.specs.Limits.{scopeLimit, activeLimit}
 use Rattle.book.specs.Lists.{tabulate}
 use Rattle.book.specs.Numbers.{number}
 use Rattle.book.specs.Scopes.{unused}
 use Rattle.tables_model.specs.declared.Active.{Active}
 use Rattle.tables_model.specs.declared.Tables.{Tables}
-use Rattle.state.specs.World.{scopeOf}
 use Rattle.state.specs.declared.ram.Phase.{Phase}
 use Rattle.state.specs.declared.ram.Phase.the-variants.{Open, Closed}
 use Rattle.state.specs.declared.ram.Fuse.{Fuse}

@@ -15,7 +15,7 @@ use Rattle.book.proofs.Lists.{and-l, and-r}
 use Rattle.tables_model.specs.declared.Scope.{Scope}
 use Rattle.tables_model.specs.declared.Tables.{Tables}
 use Rattle.tables_model.specs.Visits.{InRange}
-use Rattle.tables_model.specs.Entries.{entries}
+use Rattle.tables_model.specs.Entries.{entries, scopeOf, scopeIn}
 use Rattle.state.specs.declared.ram.Phase.the-variants.{Open, Closed}
 use Rattle.state.specs.declared.ram.State.{State}
 use Rattle.state.specs.Answers.{done, refusedBy}
@@ -25,7 +25,7 @@ use Rattle.journal.specs.declared.Control.{Control}
 use Rattle.undo.specs.Writing.{rowCount}
 use Rattle.calls_model.specs.Acts.{Core, core, acted, valueFrom, valueBy}
 use Rattle.calls_model.specs.Refusals.{refusalBy}
-use Rattle.calls_model.specs.Perform.{isCoherent, entryIn, structOf, controlIn, coreOf, worldIn, settled, decided, numberBy, numberOf, stateAfter, accepted, Lent}
+use Rattle.calls_model.specs.Perform.{isCoherent, controlIn, coreOf, worldIn, settled, decided, numberBy, numberOf, stateAfter, accepted, Lent}
 
 -- ── The counters ──────────────────────────────────────────────────────────────────────────────────────────────────────
 
@@ -80,7 +80,7 @@ module _ (c : Control) (t : Tables) (scopes : List Entry) (k : Call) where
 
 -- the lengths are right: the number of every check is that of the others
 pub right-number : (s : State) (log charts copy : List ℕ) (table : List Scope) (k : Call) → Lent (length log) (length charts) (length copy) → length table ≡ 64
-    → numberBy (controlIn s) (s .tables) (map entryIn table) k ≡ numberOf (world s log charts copy table) k
+    → numberBy (controlIn s) (s .tables) (map scopeIn table) k ≡ numberOf (world s log charts copy table) k
 unfolding numberOf
 right-number s log charts copy table k lent long =
     rw (eq-eqb _ _ (lent .log-long), eq-eqb _ _ (lent .charts-long), eq-eqb _ _ (lent .copy-long), eq-eqb _ _ long)
@@ -91,7 +91,7 @@ when-refused w k a zero e h = absurd (h refl)
 when-refused w k a (suc n) e h = rw e
 
 -- none does; the call works on the flat table
-pub when-accepted : (s : State) (log charts copy : List ℕ) (table : List Scope) (flat : List ℕ) (k : Call) (m : ℕ) → entries flat ≡ map entryIn table → m ≡ 0
+pub when-accepted : (s : State) (log charts copy : List ℕ) (table : List Scope) (flat : List ℕ) (k : Call) (m : ℕ) → entries flat ≡ map scopeIn table → m ≡ 0
     → accepted (core (controlIn s) (s .tables) log charts copy (s .tail) flat) k ≡ decided (world s log charts copy table) k m
 unfolding coreOf
 when-accepted s log charts copy table flat k m e h = rw (h, e)
@@ -119,7 +119,7 @@ module _ (x y : Core) (k : Call) (is : y ≡ acted x k) where
   -- it held
   pub when-done : (a : Answer) (s : State) (table : List Scope) → y .ram .journal .control .phase ≡ Open
       → a ≡ done (valueFrom (x .tables .begun) (rowCount (y .ram .journal)) (y .ram .copy) (returns k))
-      → s ≡ stateAfter (y .ram .journal .control) (y .tables) (y .ram .journal .tail) → table ≡ map structOf (y .scopes)
+      → s ≡ stateAfter (y .ram .journal .control) (y .tables) (y .ram .journal .tail) → table ≡ map scopeOf (y .scopes)
       → _≡_ {A = Answered} (record { answer = a; world = world s (y .ram .journal .log) (y .charts) (y .ram .copy) table }) (accepted x k)
   unfolding settled worldIn valueBy
   when-done a s table e p q r = rw (p, q, r, is, value-now x k) (rw (rw is at e))

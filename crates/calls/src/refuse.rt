@@ -23,6 +23,7 @@ use tables::lookup::holds_cell;
 use tables::rules::grows_scope;
 use tables::rules::has_room;
 use tables::visits::is_listed;
+use tables_model::CellSet;
 use tables_model::Tables;
 
 // Document 01: 255 visits, 16 of them active; 32 pages.
@@ -96,7 +97,7 @@ fn refuse_hand_over(t: Tables, scopes: &[u16], rows: usize, g: Visit, r: Visit, 
     if !is_cell(c) {
         return Answer::NoSuchCell;
     }
-    if !holds_cell(scopes, t.used, g, c) {
+    if !holds_cell(scopes, t.used, g, CellSet::Only(c)) {
         return Answer::HoldsNone;
     }
     if has_room(t, scopes, rows, 1) {

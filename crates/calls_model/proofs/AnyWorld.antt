@@ -7,9 +7,11 @@ use mathlib.Core.Bool.{Bool, true, false, cond, not, _||_}
 use mathlib.Core.List.{List, map}
 use lib.IntN.{ℤ, pos}
 use lib.Dec.{eqb, leb, ltb}
+use Rattle.tables_model.specs.Entries.{scopeIn}
 use Rattle.book.specs.Lists.{member}
 use Rattle.book.specs.Limits.{visitLimit, activeLimit, scopeLimit, pageLimit}
 use Rattle.book.specs.Rows.{isCell}
+use Rattle.book.specs.Ledger.{only}
 use Rattle.book.specs.Calls.{Call}
 use Rattle.book.proofs.Lists.{clash}
 use Rattle.tables_model.specs.declared.Tables.{Tables}
@@ -26,7 +28,7 @@ use Rattle.journal.specs.Journal.{paged}
 use Rattle.undo.specs.Writing.{isRunning}
 use Rattle.calls_model.specs.Refusals.{refusalBy}
 use Rattle.calls_model.specs.Acts.{Core, acted}
-use Rattle.calls_model.specs.Perform.{entryIn, controlIn, coreOf, worldIn, settled, decided, isCoherent, numberOf, performed}
+use Rattle.calls_model.specs.Perform.{controlIn, coreOf, worldIn, settled, decided, isCoherent, numberOf, performed}
 
 -- ── The numbers ───────────────────────────────────────────────────────────────────────────────────────────────────────
 
@@ -53,7 +55,7 @@ refusal-in x rows (Call.change v c a) =
     (check (not (growsBy x v c || ltb (x .tables .used) scopeLimit)) (listed refl) (check (not (roomBy x rows 2)) (listed refl) (listed refl))))
 refusal-in x rows (Call.handOver g r c) =
     check (not (isListed (x .tables) g)) (listed refl) (check (not (isListed (x .tables) r)) (listed refl) (check (eqb g r) (listed refl)
-    (check (not (isCell c)) (listed refl) (check (not (holdsBy x g c)) (listed refl) (check (not (roomBy x rows 1)) (listed refl) (listed refl))))))
+    (check (not (isCell c)) (listed refl) (check (not (holdsBy x g (only c))) (listed refl) (check (not (roomBy x rows 1)) (listed refl) (listed refl))))))
 refusal-in x rows (Call.commit v) = check (not (isListed (x .tables) v)) (listed refl) (listed refl)
 refusal-in x rows (Call.abort v) = check (not (isListed (x .tables) v)) (listed refl) (listed refl)
 refusal-in x rows Call.force = listed refl
@@ -127,7 +129,7 @@ module _ (w : World) (k : Call) where
       let c : Control = controlIn (w .state) in
       let t : Tables = w .state .tables in
       check (not (rightLengths w)) (always k .1) (check (not (isOpenPhase (c .phase))) (always k .2) (check (not (isCoherent c t)) (always k .2)
-      (refusal-in (record { tables = t; scopes = map entryIn (w .scopes) }) (c .stored + c .waiting) k)))
+      (refusal-in (record { tables = t; scopes = map scopeIn (w .scopes) }) (c .stored + c .waiting) k)))
 
   ends : Ends w k (performed w k)
   unfolding performed coreOf

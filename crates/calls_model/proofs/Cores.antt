@@ -5,6 +5,7 @@ use mathlib.Core.Path.{_≡_, refl, ap, ap₂, _∙_}
 use mathlib.Core.Bool.{Bool, true, false, cond}
 use mathlib.Core.List.{List, [], _∷_, _++_, map}
 use lib.IntN.{ℤ, pos}
+use Rattle.tables_model.specs.Entries.{scopeOf, scopeIn}
 use Rattle.book.specs.Rows.{Row}
 use Rattle.book.specs.Rules.{allowedLog}
 use Rattle.book.specs.Scopes.{Scope}
@@ -18,15 +19,14 @@ use Rattle.book.proofs.Steps.{bookOf}
 use Rattle.tables_model.specs.Rows.{Index}
 use Rattle.tables_model.specs.Meaning.{tablesOf, scopeTable, indexOf}
 use Rattle.tables_model.specs.declared.Scope as ram
-use Rattle.state.specs.World.{World, openState, stateOf, tableOf, copyOf, worldOf, scopeOf, cleared}
+use Rattle.state.specs.World.{World, openState, stateOf, tableOf, copyOf, worldOf, cleared}
 use Rattle.state.specs.Contracts.{Answered, answered}
 use Rattle.journal.specs.Journal.{Journal}
 use Rattle.journal.specs.Meaning.{controlOf, journalOf}
 use Rattle.undo.specs.Writing.{Ram, isRunning}
 use Rattle.undo.proofs.RowWritten.{Stands, running}
 use Rattle.calls_model.specs.Acts.{Core}
-use Rattle.calls_model.specs.Perform.{entryIn, coreOf, worldIn, settled}
-use Rattle.calls_model.proofs.EntryStructs.{structs-are}
+use Rattle.calls_model.specs.Perform.{coreOf, worldIn, settled}
 
 abbrev pub ramOf : (ℕ → ℤ) → Book → Ram
 ramOf cells b = record { journal = journalOf b; copy = chartBytes (pageAfter cells (rowsOf b)) }
@@ -40,7 +40,7 @@ ram-stands cells b = record { journal = refl; copy = λ o. refl }
 
 -- ── Worlds and cores ──────────────────────────────────────────────────────────────────────────────────────────────────
 
-entries-back : (ss : List Scope) → map entryIn (map scopeOf ss) ≡ ss
+entries-back : (ss : List Scope) → map scopeIn (map scopeOf ss) ≡ ss
 entries-back [] = refl
 entries-back (s ∷ ss) = ap (λ (ts : List Scope). s ∷ ts) (entries-back ss)
 
@@ -59,21 +59,13 @@ module _ (cells : ℕ → ℤ) (charts : List ℕ) where
           }) (entries-back (scopeTable (ledgerOf (bookOf s w f true))))
       go s w f false o = clash false o refl
 
-  pub world-in : (b : Book) → allowedLog (rowsOf b) ≡ true → b .isOpen ≡ true → worldIn (coreFor cells b charts) ≡ worldOf cells b charts
+  pub world-in : (b : Book) → b .isOpen ≡ true → worldIn (coreFor cells b charts) ≡ worldOf cells b charts
   unfolding worldIn worldOf stateOf tableOf copyOf journalOf controlOf
   world-in b = go (b .stored) (b .waiting) (b .fuse) (b .isOpen)
     where
-      go : (s w : List Row) (f : Fuse) (t : Bool) → allowedLog (s ++ w) ≡ true → t ≡ true
-          → worldIn (coreFor cells (bookOf s w f t) charts) ≡ worldOf cells (bookOf s w f t) charts
-      go s w f true al o =
-          ap (λ (ss : List ram.Scope). record {
-            state = openState (bookOf s w f true);
-            log = logBytes s;
-            charts = charts;
-            copy = chartBytes (pageAfter cells (s ++ w));
-            scopes = ss;
-          }) (structs-are (s ++ w) al)
-      go s w f false al o = clash false o refl
+      go : (s w : List Row) (f : Fuse) (t : Bool) → t ≡ true → worldIn (coreFor cells (bookOf s w f t) charts) ≡ worldOf cells (bookOf s w f t) charts
+      go s w f true o = refl
+      go s w f false o = clash false o refl
 
   pub world-cleared : (b : Book) → b .isOpen ≡ false → cleared (logBytes (b .stored)) charts ≡ worldOf cells b charts
   unfolding worldOf stateOf tableOf copyOf
@@ -120,7 +112,7 @@ settled-is cells b s given done y v z r value =
     go : (t : Bool) → b .isOpen ≡ t
         → cond t (answered 0 v (worldIn y)) (answered 5 (pos 0) (cleared (y .ram .journal .log) (y .charts)))
         ≡ record { answer = cond t (record { answer = answer 0 z; book = b }) (refused 5 b) .answer; world = worldOf cells b (cond t done given) }
-    go true o = ap₂ (λ (u : ℤ) (w : World). answered 0 u w) (value o) (ap worldIn (r .opened o) ∙ world-in cells done b (s .allowed) o)
+    go true o = ap₂ (λ (u : ℤ) (w : World). answered 0 u w) (value o) (ap worldIn (r .opened o) ∙ world-in cells done b o)
     go false o =
         ap (answered 5 (pos 0))
         (ap₂ (λ (log charts : List ℕ). cleared log charts) (r .log) (r .cut o) ∙ world-cleared cells given b o)

@@ -1,5 +1,4 @@
 pub mod Refusing
-pub mod EntryStructs
 pub mod Cores
 pub mod RowCalls
 pub mod AbortCall
@@ -8,4 +7,3 @@ pub mod AcceptedCalls
 pub mod AnyWorld
 pub mod ByTheBook
 pub mod Post
-pub mod Values

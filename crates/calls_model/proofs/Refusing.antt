@@ -8,6 +8,7 @@ use lib.Dec.{eqb, leb, ltb}
 use Rattle.book.specs.Limits.{visitLimit, activeLimit, scopeLimit}
 use Rattle.book.specs.Rows.{isCell}
 use Rattle.book.specs.Rules.{isActive, room, scopeFits, holdsAny}
+use Rattle.book.specs.Ledger.{only}
 use Rattle.book.specs.Calls.{Call}
 use Rattle.book.specs.Power.{Book, rowsOf, ledgerOf}
 use Rattle.book.specs.Book.{_else_, refusal}
@@ -45,12 +46,12 @@ module _ (b : Book) (s : Steady b) where
     where
       go : (t : Bool) → isActive (ledgerOf b) g ≡ t
           → ((9, not t) else (9, not (isActive (ledgerOf b) r)) else (12, eqb g r) else (10, not (isCell c)) else
-          (13, not (holdsBy (indexOf (ledgerOf b)) g c)) else (8, not (roomBy (indexOf (ledgerOf b)) (length (rowsOf b)) 1)) else 0)
+          (13, not (holdsBy (indexOf (ledgerOf b)) g (only c))) else (8, not (roomBy (indexOf (ledgerOf b)) (length (rowsOf b)) 1)) else 0)
           ≡ ((9, not t) else (9, not (isActive (ledgerOf b) r)) else (12, eqb g r) else (10, not (isCell c)) else
-          (13, not (holdsAny (ledgerOf b) g c)) else (8, not (room (ledgerOf b) 1)) else 0)
+          (13, not (holdsAny (ledgerOf b) g (only c))) else (8, not (room (ledgerOf b) 1)) else 0)
       go true act =
           ap₂ (λ (h n : Bool). (9, not (isActive (ledgerOf b) r)) else (12, eqb g r) else (10, not (isCell c)) else (13, not h) else (8, not n) else 0)
-          (holds-by (ledgerOf b) g c (scoped-log (rowsOf b)) act) (room-by (rowsOf b) (s .allowed) 1)
+          (holds-by (ledgerOf b) g (only c) (scoped-log (rowsOf b)) act) (room-by (rowsOf b) (s .allowed) 1)
       go false act = refl
 
   pub refusal-by : (k : Call) → refusalBy (indexOf (ledgerOf b)) (length (rowsOf b)) k ≡ refusal b k

@@ -8,6 +8,7 @@ use lib.IntN.{ℤ, pos}
 use lib.Dec.{leb}
 use Rattle.book.specs.Rows.{Row}
 use Rattle.book.specs.Scopes.{Scope}
+use Rattle.book.specs.Ledger.{only}
 use Rattle.book.specs.Calls.{Call, Return, theVisit, theRow, theCell, zeroValue, returns}
 use Rattle.book.specs.Pages.{pageAt, pageOf, cellOf}
 use Rattle.tables_model.specs.declared.Tables.{Tables}
@@ -80,7 +81,7 @@ acted x Call.begin =
     record { ram = written (x .ram) (Row.begin v); charts = x .charts; tables = withBegun (x .tables) v; scopes = x .scopes }
 acted x (Call.change v c a) = changed x v c a
 acted x (Call.handOver g r c) =
-    record { ram = written (x .ram) (Row.handOver g r c); charts = x .charts; tables = x .tables; scopes = scopesHanded (x .tables .used) g r c (x .scopes) }
+    record { ram = written (x .ram) (Row.handOver g r c); charts = x .charts; tables = x .tables; scopes = scopesHanded (x .tables .used) g r (only c) (x .scopes) }
 acted x (Call.commit v) = ended (withRam x (forcedRam (written (x .ram) (Row.commit v)))) v
 acted x (Call.abort v) = let y : Core = fell x v in ended (withRam y (written (y .ram) (Row.abort v))) v
 acted x Call.force = withRam x (forcedRam (x .ram))

@@ -7,15 +7,15 @@ use lib.IntN.{ℤ, pos}
 use lib.ListN.{replicate}
 use lib.Dec.{leb, eqb}
 use Rattle.book.specs.Limits.{logLength, chartsLength, rowLimit, tailLimit, activeLimit, scopeLimit}
-use Rattle.book.specs.Scopes.{Scope as Entry, unused}
+use Rattle.book.specs.Scopes.{Scope as Entry}
 use Rattle.book.specs.Calls.{Call}
 use Rattle.book.specs.Book.{_else_}
 use Rattle.tables_model.specs.declared.Scope.{Scope}
 use Rattle.tables_model.specs.declared.Tables.{Tables}
-use Rattle.tables_model.specs.Entries.{entries}
+use Rattle.tables_model.specs.Entries.{scopeIn, scopeOf, entries}
 use Rattle.state.specs.declared.ram.State.{State}
 use Rattle.state.specs.Answers.{numberAndValue}
-use Rattle.state.specs.World.{World, world, rightLengths, isOpenPhase, scopeOf, cleared}
+use Rattle.state.specs.World.{World, world, rightLengths, isOpenPhase, cleared}
 use Rattle.state.specs.Contracts.{Answered, answered}
 use Rattle.journal.specs.declared.Control.{Control}
 use Rattle.undo.specs.Writing.{isRunning}
@@ -27,30 +27,6 @@ use Rattle.calls_model.specs.Acts.{Core, acted, valueBy}
 unfoldable pub isCoherent : Control → Tables → Bool
 isCoherent c t = leb (c .waiting) tailLimit && leb (c .stored + c .waiting) rowLimit && leb (t .count) activeLimit && leb (t .used) scopeLimit
 
--- an entry of the lent table
-abbrev pub entryIn : Scope → Entry
-entryIn s = record {
-  maker = s .maker .0;
-  holder = s .holder .0;
-  cell = s .cell .0;
-  first = s .first .0;
-  last = s .last .0;
-  handed = s .handed;
-  count = s .count;
-}
-
--- an entry as a struct of the lent table, whose cell has one byte; a cell of a sound table fits
-abbrev pub structOf : Entry → Scope
-structOf s = scopeOf (record {
-  maker = s .maker;
-  holder = s .holder;
-  cell = s .cell % 256;
-  first = s .first;
-  last = s .last;
-  handed = s .handed;
-  count = s .count;
-})
-
 abbrev pub controlIn : State → Control
 controlIn s = record { phase = s .phase; fuse = s .fuse; stored = s .stored; waiting = s .waiting }
 
@@ -60,7 +36,7 @@ coreOf w = record {
   ram = record { journal = record { control = controlIn (w .state); log = w .log; tail = w .state .tail }; copy = w .copy };
   charts = w .charts;
   tables = w .state .tables;
-  scopes = map entryIn (w .scopes);
+  scopes = map scopeIn (w .scopes);
 }
 
 -- and what it leaves
@@ -77,7 +53,7 @@ worldIn x = record {
   log = x .ram .journal .log;
   charts = x .charts;
   copy = x .ram .copy;
-  scopes = map structOf (x .scopes);
+  scopes = map scopeOf (x .scopes);
 }
 
 -- 01, "Power": an accepted call that closed the journal answers 5, and RAM is cleared here and nowhere else
@@ -95,7 +71,7 @@ numberBy c t scopes k =
 
 -- every check
 unfoldable pub numberOf : World → Call → ℕ
-numberOf w k = (1, not (rightLengths w)) else numberBy (controlIn (w .state)) (w .state .tables) (map entryIn (w .scopes)) k
+numberOf w k = (1, not (rightLengths w)) else numberBy (controlIn (w .state)) (w .state .tables) (map scopeIn (w .scopes)) k
 
 unfoldable pub performed : World → Call → Answered
 performed w k = decided w k (numberOf w k)
@@ -109,7 +85,7 @@ stateAfter c t tail = record { phase = c .phase; fuse = c .fuse; stored = c .sto
 -- what the code's struct says, with the buffers, the tail and the flat table beside it
 abbrev pub doneOf : Done → List ℕ → List ℕ → List ℕ → List ℕ → List ℕ → Answered
 doneOf r log charts copy tail flat =
-    record { answer = numberAndValue (r .answer); world = world (stateAfter (r .control) (r .tables) tail) log charts copy (map structOf (entries flat)) }
+    record { answer = numberAndValue (r .answer); world = world (stateAfter (r .control) (r .tables) tail) log charts copy (map scopeOf (entries flat)) }
 
 -- a call that no check refuses
 abbrev pub accepted : Core → Call → Answered

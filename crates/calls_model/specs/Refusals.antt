@@ -4,6 +4,7 @@ use mathlib.Core.Bool.{not, _||_}
 use lib.Dec.{leb, ltb, eqb}
 use Rattle.book.specs.Limits.{visitLimit, activeLimit, scopeLimit, pageLimit}
 use Rattle.book.specs.Rows.{isCell}
+use Rattle.book.specs.Ledger.{only}
 use Rattle.book.specs.Calls.{Call}
 use Rattle.book.specs.Book.{_else_}
 use Rattle.tables_model.specs.Visits.{isListed}
@@ -17,7 +18,7 @@ refusalBy x rows (Call.change v c a) =
     (8, not (roomBy x rows 2)) else 0
 refusalBy x rows (Call.handOver g r c) =
     (9, not (isListed (x .tables) g)) else (9, not (isListed (x .tables) r)) else (12, eqb g r) else (10, not (isCell c)) else
-    (13, not (holdsBy x g c)) else (8, not (roomBy x rows 1)) else 0
+    (13, not (holdsBy x g (only c))) else (8, not (roomBy x rows 1)) else 0
 refusalBy x rows (Call.commit v) = (9, not (isListed (x .tables) v)) else 0
 refusalBy x rows (Call.abort v) = (9, not (isListed (x .tables) v)) else 0
 refusalBy x rows Call.force = 0

@@ -12,7 +12,7 @@ use Rattle.book.specs.Limits.{scopeLimit, logLength, chartsLength}
 use Rattle.book.specs.Calls.{Call, Typed}
 use Rattle.book.specs.Book.{Answer}
 use Rattle.book.proofs.Lists.{and-l, and-r}
-use Rattle.tables_model.specs.Entries.{entries}
+use Rattle.tables_model.specs.Entries.{entries, scopeIn}
 use Rattle.tables_model.specs.declared.Scope.{Scope}
 use Rattle.state.specs.declared.answers.Result.{Result}
 use Rattle.state.specs.declared.ram.State.{State}
@@ -20,7 +20,7 @@ use Rattle.state.specs.Answers.{refusedBy}
 use Rattle.state.specs.World.{World, world}
 use Rattle.state.specs.Contracts.{Answered, answered, returned, CallPost}
 use Rattle.calls_model.specs.Acts.{core}
-use Rattle.calls_model.specs.Perform.{entryIn, controlIn, coreOf, decided, numberBy, numberOf, performed, accepted, Lent}
+use Rattle.calls_model.specs.Perform.{controlIn, coreOf, decided, numberBy, numberOf, performed, accepted, Lent}
 use Rattle.calls_model.proofs.AnyWorld.{wrong-lengths}
 use Rattle.calls_model.proofs.Post.{performed-post}
 use Rattle.cores.specs.Lent.{ByValue}

@@ -4,10 +4,11 @@ use mathlib.Core.Path.{_≡_}
 use mathlib.Core.Logic.{_≢_}
 use mathlib.Core.List.{List}
 use lib.ListN.{length, replicate}
+use Rattle.tables_model.specs.Entries.{scopeOf}
 use Rattle.book.specs.Limits.{scopeLimit}
 use Rattle.book.specs.Scopes.{unused}
 use Rattle.tables_model.specs.declared.Scope.{Scope}
-use Rattle.state.specs.World.{World, scopeOf}
+use Rattle.state.specs.World.{World}
 use Rattle.state.specs.Contracts.{Answered}
 
 -- an entry that is not in use

@@ -1,25 +1,8 @@
-// Blank entries of the scope table.
+// A scope table with no entry in use.
 ghost use mathlib.Core.Path.{_≡_};
-ghost use Rattle.cores.specs.Lent.{zeroScope, blanks};
-use rows::Cell;
-use rows::Lsn;
-use rows::Visit;
+ghost use Rattle.cores.specs.Lent.{blanks};
+use tables::scopes::unused;
 use tables_model::Scope;
-
-// An entry that is not in use.
-pub fn unused() -> Scope
-    ensures { λ r. ⌜ r ≡ zeroScope ⌝ }
-{
-    Scope {
-        maker: Visit(0),
-        holder: Visit(0),
-        cell: Cell(0),
-        first: Lsn(0),
-        last: Lsn(0),
-        handed: false,
-        count: 0,
-    }
-}
 
 pub fn blank() -> [Scope; 64]
     ensures { λ r. ⌜ r ≡ blanks ⌝ }

@@ -11,14 +11,14 @@ use borrow.Author.Tests.{eq-eqb, ne-eqb}
 use Rattle.book.specs.Calls.{Call, Typed}
 use Rattle.book.specs.Book.{Answer, answer}
 use Rattle.tables_model.specs.declared.Tables.{Tables}
-use Rattle.tables_model.specs.Entries.{entries}
+use Rattle.tables_model.specs.Entries.{entries, scopeOf, scopeIn}
 use Rattle.state.specs.Answers.{numberAndValue, refusedBy}
 use Rattle.state.specs.World.{World, world, rightLengths}
 use Rattle.state.specs.Contracts.{Answered, CallPost}
 use Rattle.journal.specs.declared.Control.{Control}
 use Rattle.calls_model.specs.declared.Done.{Done}
 use Rattle.calls_model.specs.Acts.{core}
-use Rattle.calls_model.specs.Perform.{entryIn, structOf, controlIn, stateAfter, numberBy, numberOf, performed, accepted, doneOf, Lent}
+use Rattle.calls_model.specs.Perform.{controlIn, stateAfter, numberBy, numberOf, performed, accepted, doneOf, Lent}
 use Rattle.calls_model.proofs.AnyWorld.{wrong-lengths}
 use Rattle.calls_model.proofs.Post.{performed-post}
 use Rattle.calls.proofs.Performing.{right-number, when-refused, when-accepted}
@@ -58,7 +58,7 @@ wrong-post k typed w a says e = rw says (subst (CallPost k w) (wrong-lengths w k
 
 module _ (k : Call) (typed : Typed k) (ram log charts : List ℕ) (long : length ram ≡ 2904) (lent : Lent (length log) (length charts) 1024)
     {c : Control} {t : Tables} (flat : List ℕ) (control : c ≡ controlIn (stateOf ram)) (tables : t ≡ stateOf ram .tables)
-    (scopes : entries flat ≡ map entryIn (tableOf ram)) (a : Answer) (number : a ≡ refusedBy (numberBy c t (entries flat) k)) where
+    (scopes : entries flat ≡ map scopeIn (tableOf ram)) (a : Answer) (number : a ≡ refusedBy (numberBy c t (entries flat) k)) where
   abbrev given : World
   given = worldIn ram log charts
 

@@ -10,14 +10,15 @@ ghost use Rattle.tables_model.specs.Rows.{Ready, index};
 ghost use Rattle.tables_model.specs.Meaning.{isChangeBy, beforeLast, beforeFound, beforeHighest, beforeUndone};
 ghost use Rattle.recovery_model.specs.Scan.{rowIn};
 ghost use Rattle.recovery_model.specs.Checking.{Rows};
+use rows::Cell;
 use rows::Lsn;
 use rows::Row;
 use rows::Visit;
 use rows::reader::row_in;
 use tables::entries::entry_at;
 use tables::lookup::highest;
-use tables_model::Entry;
 use tables_model::Found;
+use tables_model::Scope;
 use tables_model::Tables;
 use tables_model::Whom;
 use undo::look::is_change_by;
@@ -39,9 +40,9 @@ pub fn row_in_log(log: &[u8], k: usize, n: usize) -> Row
 }
 
 // Row n is a change of the cell by the maker.
-fn is_change_at(log: &[u8], k: usize, n: usize, maker: u16, cell: u16) -> bool
+fn is_change_at(log: &[u8], k: usize, n: usize, maker: Visit, cell: Cell) -> bool
     requires { ⌜ Rows (length (now log)) k ⌝ }
-    ensures { λ r. ⌜ r ≡ isChangeBy maker cell (rowIn (now (log .entry)) k n) ⌝ }
+    ensures { λ r. ⌜ r ≡ isChangeBy (maker .0) (cell .0) (rowIn (now (log .entry)) k n) ⌝ }
 {
     if n == 0 {
         return false;
@@ -55,17 +56,20 @@ fn is_change_at(log: &[u8], k: usize, n: usize, maker: u16, cell: u16) -> bool
 }
 
 // The change before the scope's last one, 0 for none: a search downwards, to the scope's first row.
-fn before_last(log: &[u8], k: usize, s: Entry) -> Lsn
+fn before_last(log: &[u8], k: usize, s: Scope) -> Lsn
     requires { ⌜ Rows (length (now log)) k ⌝ }
     ensures { λ r. ⌜ r .0 ≡ beforeLast (rowIn (now (log .entry)) k) (scopeIn s) ⌝ }
 {
-    let mut n = s.last;
+    let maker = s.maker;
+    let cell = s.cell;
+    let first = s.first.0;
+    let mut n = s.last.0;
     while 0 < n {
         n -= 1;
-        if n < s.first {
+        if n < first {
             return Lsn(0);
         }
-        if is_change_at(log, k, n as usize, s.maker, s.cell) {
+        if is_change_at(log, k, n as usize, maker, cell) {
             return Lsn(n);
         }
     }

@@ -8,6 +8,7 @@ use mathlib.Core.List.{List, [], _++_, map, reverse, append-nil}
 use lib.ListN.{length, length-append, replicate}
 use lib.IntN.{ℤ, pos}
 use lib.Dec.{eqb}
+use Rattle.tables_model.specs.Entries.{scopeOf}
 use Rattle.book.specs.Lists.{padTo}
 use Rattle.book.specs.Limits.{activeLimit, scopeLimit}
 use Rattle.book.specs.Rows.{Row}
@@ -26,7 +27,7 @@ use Rattle.book.proofs.Steps.{bookOf}
 use Rattle.book.proofs.Force.{reopened-empty}
 use Rattle.book.proofs.Openings.{reopened-stored}
 use Rattle.book.proofs.OpenBytes.{byTheBook}
-use Rattle.state.specs.World.{fuseOf, scopeOf, stateOf, tableOf}
+use Rattle.state.specs.World.{fuseOf, stateOf, tableOf}
 use Rattle.state.specs.Contracts.{Answered, answered, openedWorld}
 use Rattle.state.specs.declared.ram.Phase.the-variants.{Open}
 use Rattle.tables_model.specs.declared.Scope as lent

@@ -3,11 +3,11 @@ use Prim.Native.Nat.{ℕ}
 use mathlib.Core.Bool.{Bool, cond}
 use mathlib.Core.List.{List}
 use lib.ListN.{replicate}
+use Rattle.tables_model.specs.Entries.{scopeOf}
 use Rattle.book.specs.Limits.{scopeLimit}
 use Rattle.book.specs.Scopes.{unused}
 use Rattle.tables_model.specs.declared.Scope.{Scope}
 use Rattle.state.specs.declared.ram.State.{State}
-use Rattle.state.specs.World.{scopeOf}
 use Rattle.state.specs.Contracts.{Answered, returned}
 use Rattle.journal.specs.declared.Control.{Control}
 use Rattle.recovery_model.specs.declared.Restart.{Restart}

@@ -5,10 +5,11 @@ use mathlib.Core.List.{List}
 use lib.ListN.{replicate}
 use lib.IntN.{pos}
 use lib.Dec.{eqb, ltb}
+use Rattle.tables_model.specs.Entries.{scopeOf}
 use Rattle.book.specs.Limits.{activeLimit, scopeLimit, pageLimit}
 use Rattle.book.specs.Scopes.{unused}
 use Rattle.state.specs.declared.ram.Fuse.{Fuse}
-use Rattle.state.specs.World.{World, rightLengths, scopeOf, cleared, noTables}
+use Rattle.state.specs.World.{World, rightLengths, cleared, noTables}
 use Rattle.state.specs.Contracts.{Answered, answered}
 use Rattle.tables_model.specs.declared.Tables.{Tables}
 use Rattle.tables_model.specs.Visits.{vacant}

@@ -6,9 +6,8 @@ use native.Mathlib.Omega.{arith}
 use borrow.Author.Needs.{needs}
 use lib.ListN.{length, length-take, length-drop, length-map, List·getD-map}
 use Rattle.tables.proofs.Flat.{entries-length}
-use Rattle.tables_model.specs.Entries.{entries}
+use Rattle.tables_model.specs.Entries.{entries, scopeOf}
 use Rattle.book.specs.Scopes.{unused}
-use Rattle.state.specs.World.{scopeOf}
 use Rattle.calls_model.specs.Perform.{structOf}
 use Rattle.block.specs.Fields.{scopeIn, allIn}
 use Rattle.block.proofs.InUse.{all-long, all-written}

@@ -5,17 +5,15 @@ use mathlib.Core.List.{map}
 use native.Mathlib.Omega.{arith}
 use lib.ListN.{length, take, set}
 use Rattle.book.specs.Scopes.{unused}
-use Rattle.tables_model.specs.Entries.{entries}
+use Rattle.tables_model.specs.Entries.{entries, scopeOf, scopeIn}
 use Rattle.tables.proofs.Flat.{entries-length}
-use Rattle.state.specs.World.{scopeOf}
-use Rattle.calls_model.specs.Perform.{entryIn}
 use Rattle.cores.proofs.Crossings.{crossed-next, crossed-all}
 use borrow.Author.Needs.{needs}
 use Rattle.cores.proofs.crossing.flat_into.Statement.{statement}
 use Rattle.cores.proofs.crossing.flat_into.Tie as tie
 
 abbrev Inv-loop : tie.InvT-loop
-Inv-loop f₀ t i₀ f i = (i ≤ 64) × (length f ≡ length f₀) × (take i (entries f) ≡ map entryIn (take i t))
+Inv-loop f₀ t i₀ f i = (i ≤ 64) × (length f ≡ length f₀) × (take i (entries f) ≡ map scopeIn (take i t))
 
 abbrev μ-loop : tie.MeasureT-loop
 μ-loop f₀ t i₀ f i = 64 - i
@@ -33,11 +31,8 @@ mul-s c = omega arith
 array-copy-out-s : tie.Need-array-copy-out-s Inv-loop μ-loop
 array-copy-out-s c = omega arith
 
-entry-of-requires : tie.Need-entry-of-requires Inv-loop μ-loop
-entry-of-requires c κs = tt
-
 put-entry-requires : tie.Need-put-entry-requires Inv-loop μ-loop
-put-entry-requires c κs = record { long = c .before .before .before .before .loop .inv .1 ∙ c .before .before .before .before .before .before .pre; below = c .before .before .before .loop-test .taken }
+put-entry-requires c κs = record { long = c .before .before .before .loop .inv .1 ∙ c .before .before .before .before .before .pre; below = c .before .before .loop-test .taken }
 
 add-i : tie.Need-add-i Inv-loop μ-loop
 add-i c = omega arith
@@ -47,14 +42,13 @@ loop-less c = omega arith
 
 loop-again : tie.Need-loop-again Inv-loop μ-loop
 loop-again c =
-    let s = c .before .before .before .before .before .before .before .before .before in
-    let l = c .before .before .before .before .before .before .before .loop in
+    let s = c .before .before .before .before .before .before .before .before in
+    let l = c .before .before .before .before .before .before .loop in
     let p = c .before .before .put-entry in
-    let below : l .i < 64 = c .before .before .before .before .before .before .loop-test .taken in
+    let below : l .i < 64 = c .before .before .before .before .before .loop-test .taken in
     let h : l .i < length (s .args .t1) = omega (arith, long s) in
     let k : l .i < length (entries (l .f)) = rw entries-length below in
-    let e = p .ensures ∙ ap (set (entries (l .f)) (l .i)) (c .before .before .before .entry-of .ensures) in
-    (omega arith, p .kept .0 ∙ l .inv .1, rw e (crossed-next entryIn (s .args .t1) (entries (l .f)) (l .i) (l .inv .2) (scopeOf unused) h k))
+    (omega arith, p .kept .0 ∙ l .inv .1, rw (p .ensures) (crossed-next scopeIn (s .args .t1) (entries (l .f)) (l .i) (l .inv .2) (scopeOf unused) h k))
 
 same-length : tie.Need-same-length Inv-loop μ-loop
 same-length c = c .before .loop .inv .1
@@ -63,7 +57,7 @@ returns : tie.Need-returns Inv-loop μ-loop
 returns c =
     let s = c .before .before .before in
     let l = c .before .loop in
-    crossed-all entryIn (s .args .t1) (entries (l .f)) (l .i) (l .inv .2) (omega (arith, long s)) (rw entries-length (omega arith))
+    crossed-all scopeIn (s .args .t1) (entries (l .f)) (l .i) (l .inv .2) (omega (arith, long s)) (rw entries-length (omega arith))
 
 pub flat-into-spec : {M : Type 1} → statement M
 flat-into-spec =
@@ -74,7 +68,6 @@ flat-into-spec =
     loop-holds
     mul-s
     array-copy-out-s
-    entry-of-requires
     put-entry-requires
     add-i
     loop-less

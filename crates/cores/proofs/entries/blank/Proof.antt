@@ -1,6 +1,9 @@
+-- `cores::entries::blank` meets its contract. Assumes nothing.
 use mathlib.Core.Path.{ap}
 use lib.ListN.{replicate}
 use borrow.Author.Needs.{needs}
+use Rattle.book.specs.Scopes.{Scope}
+use Rattle.tables_model.specs.Entries.{scopeOf}
 use Rattle.cores.proofs.entries.blank.Statement.{statement}
 use Rattle.cores.proofs.entries.blank.Tie as tie
 
@@ -8,7 +11,7 @@ unused-requires : tie.Need-unused-requires
 unused-requires c κs = search needs
 
 returns : tie.Need-returns
-returns c = ap (replicate 64) (c .unused .ensures)
+returns c = ap (λ (s : Scope). replicate 64 (scopeOf s)) (c .unused .ensures)
 
 pub blank-spec : {M : Type 1} → statement M
 blank-spec = tie.close (tie.spec unused-requires returns)

@@ -10,10 +10,11 @@ use Rattle.recovery.proofs.look.before_last.Statement.{statement}
 use Rattle.recovery.proofs.look.before_last.Tie as tie
 
 abbrev Inv-loop : tie.InvT-loop
-Inv-loop log k s n₀ n = let look = rowIn log k in (n ≤ s .last) × (previous look (s .maker) (s .cell) (s .first) (s .last) ≡ previous look (s .maker) (s .cell) (s .first) n)
+Inv-loop log k maker cell first n₀ n =
+    let look = rowIn log k in (n ≤ n₀) × (previous look (maker .0) (cell .0) first n₀ ≡ previous look (maker .0) (cell .0) first n)
 
 abbrev μ-loop : tie.MeasureT-loop
-μ-loop log k s n₀ n = n
+μ-loop log k maker cell first n₀ n = n
 
 loop-holds : tie.Need-loop-holds Inv-loop μ-loop
 loop-holds c = (omega arith, refl)
