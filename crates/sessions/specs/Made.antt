@@ -29,12 +29,14 @@ answeredBy r = returned (r .result) (r .log) (r .charts) (r .copy) (r .scopes)
 
 -- ── The calls ─────────────────────────────────────────────────────────────────────────────────────────────────────────
 
+-- of `format`
 pub record FormatCall : Type 0 where
   pub cells : List ℤ
   pub given : World
   pub return : Return
   pub post : FormatPost cells given (answeredBy return)
 
+-- of `open`
 pub record OpenCall : Type 0 where
   pub fuse : Fuse
   pub asLeft : Bool  -- it gets the state, copy and scopes that the call before it returned or left
@@ -42,6 +44,7 @@ pub record OpenCall : Type 0 where
   pub return : Return
   pub post : OpenPost (allowance fuse) given (answeredBy return)
 
+-- of `call`
 pub record OtherCall : Type 0 where
   pub request : Request
   pub given : World
