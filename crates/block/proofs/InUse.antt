@@ -7,10 +7,9 @@ use native.Mathlib.Omega.{arith}
 use lib.ListN.{length, getD, set, replicate}
 use Rattle.book.specs.Lists.{tabulate}
 use Rattle.book.specs.Scopes.{Scope as Entry, unused}
-use Rattle.tables_model.specs.Entries.{entries, scopeOf}
+use Rattle.tables_model.specs.Entries.{scopeIn as entryOf, scopeOf, entries}
 use Rattle.tables.proofs.Flat.{entries-zero}
 use Rattle.tables_model.specs.declared.Scope.{Scope}
-use Rattle.calls_model.specs.Perform.{entryIn}
 use Rattle.block.specs.Fields.{part, scopeIn, inUse, allIn, tableIn, SameUse}
 use Rattle.block.proofs.Things.{Upto}
 
@@ -93,18 +92,18 @@ unfolding allIn
 all-long bs = tabulate-long 64 0 (λ i. scopeIn (part (12 * i) 12 bs))
 
 -- none was read, and the entries are those of a flat table of zeros
-pub none-read : (bs flat : List ℕ) → flat ≡ replicate 448 0 → entries flat ≡ map entryIn (tableIn 0 bs)
+pub none-read : (bs flat : List ℕ) → flat ≡ replicate 448 0 → entries flat ≡ map entryOf (tableIn 0 bs)
 none-read bs flat e =
     ap entries e ∙ entries-zero 448 refl ∙
-    sym (ap (map entryIn) (none-in-use (allIn bs) ∙ ap (λ (n : ℕ). replicate n (scopeOf unused)) (all-long bs)))
+    sym (ap (map entryOf) (none-in-use (allIn bs) ∙ ap (λ (n : ℕ). replicate n (scopeOf unused)) (all-long bs)))
 
 -- one more was read
-pub next-read : (bs : List ℕ) (es : List Entry) (i : ℕ) (e : Entry) → i < 64 → es ≡ map entryIn (tableIn i bs) → e ≡ entryIn (scopeIn (part (12 * i) 12 bs))
-    → set es i e ≡ map entryIn (tableIn (i + 1) bs)
+pub next-read : (bs : List ℕ) (es : List Entry) (i : ℕ) (e : Entry) → i < 64 → es ≡ map entryOf (tableIn i bs) → e ≡ entryOf (scopeIn (part (12 * i) 12 bs))
+    → set es i e ≡ map entryOf (tableIn (i + 1) bs)
 unfolding allIn
 next-read bs es i e h upto is =
     let z : 0 + i ≡ i = omega arith in
-    rw (add-one, upto, is) (rw z at (one-more entryIn 64 0 i (λ j. scopeIn (part (12 * j) 12 bs)) h))
+    rw (add-one, upto, is) (rw z at (one-more entryOf 64 0 i (λ j. scopeIn (part (12 * j) 12 bs)) h))
 
 -- all n in use were written
 pub all-written : (n : ℕ) (bs : List ℕ) (ss : List Scope) → length ss ≡ 64 → Upto scopeIn 12 (scopeOf unused) n bs ss → tableIn n bs ≡ inUse n ss

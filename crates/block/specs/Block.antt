@@ -3,12 +3,12 @@ use Prim.Native.Nat.{ℕ}
 use mathlib.Core.Path.{_≡_}
 use mathlib.Core.List.{List, map}
 use Rattle.tables_model.specs.declared.Tables.{Tables}
-use Rattle.tables_model.specs.Entries.{entries}
+use Rattle.tables_model.specs.Entries.{scopeOf, entries}
 use Rattle.state.specs.World.{World}
 use Rattle.state.specs.declared.ram.State.{State}
 use Rattle.tables_model.specs.declared.Scope.{Scope}
 use Rattle.journal.specs.declared.Control.{Control}
-use Rattle.calls_model.specs.Perform.{structOf, stateAfter}
+use Rattle.calls_model.specs.Perform.{stateAfter}
 use Rattle.block.specs.Fields.{tableAt, copyAt, part, blanks, inUse, stateIn, tableIn}
 
 -- state, scope table and copy; of the table only the entries that the state says are in use
@@ -33,7 +33,7 @@ pub record Holds (before after : List ℕ) (s : State) (t : List Scope) : Type 0
 
 -- by where the journal stands, the tables, the tail and the flat scope table
 abbrev pub Put : List ℕ → List ℕ → Control → Tables → List ℕ → List ℕ → Type 0
-Put before after c t tail flat = Holds before after (stateAfter c t tail) (inUse (t .used) (map structOf (entries flat)))
+Put before after c t tail flat = Holds before after (stateAfter c t tail) (inUse (t .used) (map scopeOf (entries flat)))
 
 -- by a state, with every entry unused
 abbrev pub Cleared : List ℕ → List ℕ → State → Type 0

@@ -2,8 +2,8 @@
 ghost use mathlib.Core.Path.{_≡_};
 ghost use mathlib.Core.List.{map};
 ghost use lib.ListN.{length, replicate};
-ghost use Rattle.tables_model.specs.Entries.{flatLength, entries};
-ghost use Rattle.calls_model.specs.Perform.{entryIn, controlIn};
+ghost use Rattle.tables_model.specs.Entries.{flatLength, scopeIn as entryOf, entries};
+ghost use Rattle.calls_model.specs.Perform.{controlIn};
 ghost use Rattle.block.specs.Fields.{ramLength};
 ghost use Rattle.block.specs.Block.{stateOf, tableOf, Put, Cleared};
 use crate::COPY;
@@ -44,7 +44,7 @@ pub fn tail_in(ram: &[u8]) -> [u8; 1024]
 // The entries in use, into a flat table that has none.
 pub fn flat_in(ram: &[u8], used: usize, flat: &mut [u16])
     requires { ⌜ (length (now ram) ≡ ramLength) × (used ≡ stateOf (now ram) .tables .used) × (now flat ≡ replicate flatLength 0) ⌝ }
-    ensures { λ _. ⌜ entries (now (flat .exit)) ≡ map entryIn (tableOf (now (ram .entry))) ⌝ }
+    ensures { λ _. ⌜ entries (now (flat .exit)) ≡ map entryOf (tableOf (now (ram .entry))) ⌝ }
 {
     load_flat(&ram[TABLE..COPY], used, flat);
 }

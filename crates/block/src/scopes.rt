@@ -3,44 +3,43 @@ ghost use mathlib.Core.Path.{_≡_};
 ghost use mathlib.Core.List.{map};
 ghost use Prim.Native.Nat.{_≤_};
 ghost use lib.ListN.{length, replicate};
-ghost use Rattle.tables_model.specs.Entries.{flatLength, scopeIn as entryOf, entries};
-ghost use Rattle.calls_model.specs.Perform.{entryIn, structOf};
+ghost use Rattle.tables_model.specs.Entries.{flatLength, scopeIn as entryOf, scopeOf, entries};
 ghost use Rattle.block.specs.Fields.{scopeIn, blanks, inUse, allIn, tableIn, SameUse};
 use crate::numbers::bytes16;
 use crate::numbers::flag;
 use crate::numbers::read16;
-use crate::numbers::widened;
+use rows::Cell;
+use rows::Lsn;
+use rows::Visit;
 use tables::entries::entry_at;
 use tables::entries::put_entry;
-use tables_model::Entry;
+use tables_model::Scope;
 
 // An entry in its 12 bytes. Whatever is not 0 counts as handed.
-fn read_entry(b: &[u8]) -> Entry
+fn read_entry(b: &[u8]) -> Scope
     requires { ⌜ length (now b) ≡ 12 ⌝ }
-    ensures { λ r. ⌜ entryOf r ≡ entryIn (scopeIn (now (b .entry))) ⌝ }
+    ensures { λ r. ⌜ r ≡ scopeIn (now (b .entry)) ⌝ }
 {
-    Entry {
-        maker: read16(b, 0),
-        holder: read16(b, 2),
-        cell: widened(b[10]),
-        first: read16(b, 4),
-        last: read16(b, 6),
+    Scope {
+        maker: Visit(read16(b, 0)),
+        holder: Visit(read16(b, 2)),
+        cell: Cell(b[10]),
+        first: Lsn(read16(b, 4)),
+        last: Lsn(read16(b, 6)),
         handed: b[11] != 0,
         count: read16(b, 8),
     }
 }
 
-// The cell has one byte; a cell of a sound table fits.
-fn write_entry(b: &mut [u8], s: Entry)
+fn write_entry(b: &mut [u8], s: Scope)
     requires { ⌜ length (now b) ≡ 12 ⌝ }
-    ensures { λ _. ⌜ scopeIn (now (b .exit)) ≡ structOf (entryOf s) ⌝ }
+    ensures { λ _. ⌜ scopeIn (now (b .exit)) ≡ s ⌝ }
 {
-    let m = bytes16(s.maker);
-    let h = bytes16(s.holder);
-    let f = bytes16(s.first);
-    let l = bytes16(s.last);
+    let m = bytes16(s.maker.0);
+    let h = bytes16(s.holder.0);
+    let f = bytes16(s.first.0);
+    let l = bytes16(s.last.0);
     let n = bytes16(s.count);
-    let cell = (s.cell % 256) as u8;
     let handed = flag(s.handed);
     let entry = [
         m[0],
@@ -53,7 +52,7 @@ fn write_entry(b: &mut [u8], s: Entry)
         l[1],
         n[0],
         n[1],
-        cell,
+        s.cell.0,
         handed,
     ];
     bytes::copy(&entry, b);
@@ -69,7 +68,7 @@ fn at_most(used: usize) -> usize
 // The entries in use go over into the flat table, which has none.
 pub(crate) fn load_flat(b: &[u8], used: usize, f: &mut [u16])
     requires { ⌜ (length (now b) ≡ 768) × (now f ≡ replicate flatLength 0) ⌝ }
-    ensures { λ _. ⌜ entries (now (f .exit)) ≡ map entryIn (tableIn used (now (b .entry))) ⌝ }
+    ensures { λ _. ⌜ entries (now (f .exit)) ≡ map entryOf (tableIn used (now (b .entry))) ⌝ }
 {
     let n = at_most(used);
     let mut i: usize = 0;
@@ -84,7 +83,7 @@ pub(crate) fn load_flat(b: &[u8], used: usize, f: &mut [u16])
 
 pub(crate) fn save_flat(b: &mut [u8], used: usize, f: &[u16])
     requires { ⌜ (length (now b) ≡ 768) × (length (now f) ≡ flatLength) ⌝ }
-    ensures { λ _. ⌜ tableIn used (now (b .exit)) ≡ inUse used (map structOf (entries (now (f .entry)))) ⌝ }
+    ensures { λ _. ⌜ tableIn used (now (b .exit)) ≡ inUse used (map scopeOf (entries (now (f .entry)))) ⌝ }
 {
     let n = at_most(used);
     let mut i: usize = 0;

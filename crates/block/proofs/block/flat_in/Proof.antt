@@ -2,7 +2,7 @@
 use Prim.Native.Nat.{ℕ}
 use mathlib.Core.Path.{ap, _∙_}
 use mathlib.Core.List.{map}
-use Rattle.calls_model.specs.Perform.{entryIn}
+use Rattle.tables_model.specs.Entries.{scopeIn as entryOf}
 use Rattle.block.specs.Fields.{part, tableIn}
 use borrow.Author.Needs.{needs}
 use Rattle.block.proofs.block.flat_in.Statement.{statement}
@@ -26,7 +26,7 @@ same-length c = search needs
 returns : tie.Need-returns
 returns c =
     let s = c .before .before .before .before .before .before .before in
-    c .before .before .load-flat .ensures ∙ ap (λ (u : ℕ). map entryIn (tableIn u (part 1112 768 (s .args .ram .now)))) (s .pre .1)
+    c .before .before .load-flat .ensures ∙ ap (λ (u : ℕ). map entryOf (tableIn u (part 1112 768 (s .args .ram .now)))) (s .pre .1)
 
 pub flat-in-spec : {M : Type 1} → statement M
 flat-in-spec =

@@ -5,15 +5,14 @@ use mathlib.Core.List.{map}
 use native.Mathlib.Omega.{arith}
 use borrow.Author.Needs.{needs}
 use lib.ListN.{length}
-use Rattle.tables_model.specs.Entries.{entries}
-use Rattle.calls_model.specs.Perform.{entryIn}
+use Rattle.tables_model.specs.Entries.{scopeIn as entryOf, entries}
 use Rattle.block.specs.Fields.{allIn, tableIn}
 use Rattle.block.proofs.InUse.{all-long, none-read, next-read}
 use Rattle.block.proofs.scopes.load_flat.Statement.{statement}
 use Rattle.block.proofs.scopes.load_flat.Tie as tie
 
 abbrev Inv-loop : tie.InvT-loop
-Inv-loop b used f₀ n i₀ f i = (i ≤ n) × (length f ≡ length f₀) × (entries f ≡ map entryIn (tableIn i b))
+Inv-loop b used f₀ n i₀ f i = (i ≤ n) × (length f ≡ length f₀) × (entries f ≡ map entryOf (tableIn i b))
 
 abbrev μ-loop : tie.MeasureT-loop
 μ-loop b used f₀ n i₀ f i = n - i
@@ -81,7 +80,7 @@ returns c =
     let s = c .before .before .before .before .before in
     let m = c .before .before .at-most in
     let e : l .i ≡ m .result = omega arith in
-    l .inv .2 ∙ ap (map entryIn) (ap (λ (u : ℕ). tableIn u (s .args .b .now)) e ∙ m .ensures .1 (allIn (s .args .b .now)) (all-long (s .args .b .now)))
+    l .inv .2 ∙ ap (map entryOf) (ap (λ (u : ℕ). tableIn u (s .args .b .now)) e ∙ m .ensures .1 (allIn (s .args .b .now)) (all-long (s .args .b .now)))
 
 pub load-flat-spec : {M : Type 1} → statement M
 load-flat-spec =

@@ -8,7 +8,6 @@ use lib.ListN.{length, length-take, length-drop, length-map, List·getD-map}
 use Rattle.tables.proofs.Flat.{entries-length}
 use Rattle.tables_model.specs.Entries.{entries, scopeOf}
 use Rattle.book.specs.Scopes.{unused}
-use Rattle.calls_model.specs.Perform.{structOf}
 use Rattle.block.specs.Fields.{scopeIn, allIn}
 use Rattle.block.proofs.InUse.{all-long, all-written}
 use Rattle.block.proofs.Parts.{as-long}
@@ -17,7 +16,7 @@ use Rattle.block.proofs.scopes.save_flat.Statement.{statement}
 use Rattle.block.proofs.scopes.save_flat.Tie as tie
 
 abbrev Inv-loop : tie.InvT-loop
-Inv-loop b₀ used f n i₀ b i = (i ≤ n) × (length b ≡ length b₀) × Upto scopeIn 12 (scopeOf unused) i b (map structOf (entries f))
+Inv-loop b₀ used f n i₀ b i = (i ≤ n) × (length b ≡ length b₀) × Upto scopeIn 12 (scopeOf unused) i b (map scopeOf (entries f))
 
 abbrev μ-loop : tie.MeasureT-loop
 μ-loop b₀ used f n i₀ b i = n - i
@@ -28,7 +27,7 @@ at-most-requires c κs = search needs
 loop-holds : tie.Need-loop-holds Inv-loop μ-loop
 loop-holds c =
     let x = c .before .before .before .args in
-    (omega arith, refl, none scopeIn 12 (scopeOf unused) (x .b .now) (map structOf (entries (x .f .now))))
+    (omega arith, refl, none scopeIn 12 (scopeOf unused) (x .b .now) (map scopeOf (entries (x .f .now))))
 
 mul-a : tie.Need-mul-a Inv-loop μ-loop
 mul-a c = search needs
@@ -68,10 +67,10 @@ loop-again c =
     let k : 12 * l .i + 12 - 12 * l .i ≡ 12 = omega arith in
     let fits : 12 * l .i + 12 ≤ length (l .b) = omega (arith, m .ensures .0, l .inv .1, s .pre .0) in
     let long : length (w .last .0) ≡ 12 = w .kept .0 ∙ simp (length-take, length-drop) (omega arith) in
-    let is = w .ensures ∙ ap structOf (a .ensures) ∙ sym (List·getD-map structOf (entries (s .args .f .now)) (l .i) unused) in (
+    let is = w .ensures ∙ ap scopeOf (a .ensures) ∙ sym (List·getD-map scopeOf (entries (s .args .f .now)) (l .i) unused) in (
       omega arith,
       rw k (as-long (12 * l .i) 12 (w .last .0) (l .b) long fits) ∙ l .inv .1,
-      rw k (next-written scopeIn 12 (scopeOf unused) (l .i) (l .b) (w .last .0) (map structOf (entries (s .args .f .now))) (l .inv .2) long fits is),
+      rw k (next-written scopeIn 12 (scopeOf unused) (l .i) (l .b) (w .last .0) (map scopeOf (entries (s .args .f .now))) (l .inv .2) long fits is),
     )
 
 same-length : tie.Need-same-length Inv-loop μ-loop
@@ -82,9 +81,9 @@ returns c =
     let l = c .before .loop in
     let s = c .before .before .before .before .before in
     let m = c .before .before .at-most in
-    let ss = map structOf (entries (s .args .f .now)) in
+    let ss = map scopeOf (entries (s .args .f .now)) in
     let e : l .i ≡ m .result = omega arith in
-    let long : length ss ≡ 64 = length-map (entries (s .args .f .now)) structOf ∙ entries-length (s .args .f .now) in
+    let long : length ss ≡ 64 = length-map (entries (s .args .f .now)) scopeOf ∙ entries-length (s .args .f .now) in
     sym (m .ensures .1 (allIn (l .b)) (all-long (l .b))) ∙ all-written (m .result) (l .b) ss long (rw e at (l .inv .2)) ∙ m .ensures .1 ss long
 
 pub save-flat-spec : {M : Type 1} → statement M

@@ -1,7 +1,6 @@
 -- `block::scopes::write_entry` meets its contract. Assumes nothing.
 use mathlib.Core.Path.{refl}
 use Rattle.tables_model.specs.Entries.{scopeIn as entryOf}
-use Rattle.calls_model.specs.Perform.{structOf}
 use Rattle.block.proofs.Records.{scope-is}
 use borrow.Author.Needs.{needs}
 use Rattle.block.proofs.scopes.write_entry.Statement.{statement}
@@ -69,7 +68,7 @@ same-length c = search needs
 
 returns : tie.Need-returns
 returns c =
-    scope-is (structOf (entryOf (c .before .before .before .before .before .before .before .before .before .before .before .before .before .args .s))) (c .before .before .copy .ensures .1) (c .before .before .before .before .before .before .before .before .before .before .before .bytes16 .ensures .1) (c .before .before .before .before .before .before .before .before .before .before .bytes162 .ensures .1) refl
+    scope-is (scopeOf (entryOf (c .before .before .before .before .before .before .before .before .before .before .before .before .before .args .s))) (c .before .before .copy .ensures .1) (c .before .before .before .before .before .before .before .before .before .before .before .bytes16 .ensures .1) (c .before .before .before .before .before .before .before .before .before .before .bytes162 .ensures .1) refl
     (c .before .before .before .before .before .before .before .before .before .bytes163 .ensures .1) (c .before .before .before .before .before .before .before .before .bytes164 .ensures .1) (c .before .before .before .before .before .flag .ensures) (c .before .before .before .before .before .before .before .bytes165 .ensures .1)
 
 pub write-entry-spec : {M : Type 1} → statement M

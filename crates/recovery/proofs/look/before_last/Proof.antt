@@ -24,18 +24,18 @@ sub-n c = omega arith
 
 returns : tie.Need-returns Inv-loop μ-loop
 returns c =
-    let l = c .before .before .before .loop in
+    let l = c .before .before .loop in
     sym (l .inv .1 ∙ stops _ _ _ _ (l .n - 1) (l .n) (omega arith) (c .if1 .taken))
 
 cast-is-change-at : tie.Need-cast-is-change-at Inv-loop μ-loop
 cast-is-change-at c = omega arith
 
 is-change-at-requires : tie.Need-is-change-at-requires Inv-loop μ-loop
-is-change-at-requires c κs = c .before .before .before .before .before .pre
+is-change-at-requires c κs = c .before .before .before .before .before .before .pre
 
 returns-2 : tie.Need-returns-2 Inv-loop μ-loop
 returns-2 c =
-    let l = c .before .before .before .before .before .loop in
+    let l = c .before .before .before .before .loop in
     sym (l .inv .1 ∙ finds _ _ _ _ (l .n - 1) (l .n) (omega arith) (omega arith) refl (sym (c .before .is-change-at .ensures) ∙ c .if2 .taken))
 
 loop-less : tie.Need-loop-less Inv-loop μ-loop
@@ -43,7 +43,7 @@ loop-less c = omega arith
 
 loop-again : tie.Need-loop-again Inv-loop μ-loop
 loop-again c =
-    let l = c .before .before .before .before .before .loop in
+    let l = c .before .before .before .before .loop in
     (omega arith, l .inv .1 ∙ passes _ _ _ _ (l .n - 1) (l .n) (omega arith) (omega arith) (sym (c .before .is-change-at .ensures) ∙ c .if2 .left))
 
 returns-3 : tie.Need-returns-3 Inv-loop μ-loop
