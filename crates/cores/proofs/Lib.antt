@@ -1,2 +1,3 @@
 mod Crossings
+mod Openings
 mod Performing

@@ -2,5 +2,6 @@
 // to the lent table is above.
 pub mod call; // the calls of an open store
 pub mod crossing; // the scope table between its structs and its flat form
-pub mod entries; // blank entries of the scope table
+pub mod entries; // a table with no entry in use
+pub mod opening; // format and open
 pub mod outs; // what the cores give back

@@ -24,7 +24,7 @@ loop-holds : tie.Need-loop-holds Inv-loop μ-loop
 loop-holds c = (omega arith, ap length (c .blank .ensures), refl)
 
 entry-at-requires : tie.Need-entry-at-requires Inv-loop μ-loop
-entry-at-requires c κs = record { long = c .before .before .before .pre; below = c .loop-test .taken }
+entry-at-requires c κs = record { long = c .before .before .before .before .pre; below = c .loop-test .taken }
 
 mul-t : tie.Need-mul-t Inv-loop μ-loop
 mul-t c = omega arith
@@ -41,8 +41,8 @@ loop-less c = omega arith
 loop-again : tie.Need-loop-again Inv-loop μ-loop
 loop-again c =
     let s = c .before .before .before .before .before in
-    let l = c .before .before .before .loop in
-    let below : l .i < 64 = c .before .before .loop-test .taken in
+    let l = c .before .before .loop in
+    let below : l .i < 64 = c .before .loop-test .taken in
     let table = entries (s .args .f .now) in
     let h : l .i < length table = rw entries-length below in
     let k : l .i < length (l .t) = omega arith in
@@ -52,7 +52,7 @@ loop-again c =
 returns : tie.Need-returns Inv-loop μ-loop
 returns c =
     let l = c .before .loop in
-    crossed-all scopeOf (entries (c .before .before .before .args .f .now)) (l .t) (l .i) (l .inv .2) (rw entries-length (omega arith)) (omega arith)
+    crossed-all scopeOf (entries (c .before .before .before .before .args .f .now)) (l .t) (l .i) (l .inv .2) (rw entries-length (omega arith)) (omega arith)
 
 pub table-from-spec : {M : Type 1} → statement M
 table-from-spec =
