@@ -6,7 +6,7 @@ use mathlib.Core.Path.{_≡_, refl, ap, sym, _∙_}
 use mathlib.Core.List.{List, [], _∷_, _++_, append-nil, append-assoc}
 use lib.ListN.{length, take, drop}
 use Rattle.book.specs.Power.{Book}
-use Rattle.book.specs.Book.{Answer}
+use Rattle.state.specs.Contracts.{Answered}
 use Rattle.book.specs.Events.{Event, happens, answers, bookAfter}
 use Rattle.state.specs.World.{World, Represents}
 use Rattle.run_lines.specs.Lines.{line}
@@ -31,10 +31,10 @@ lines-first b e es session call =
     ap (λ (l : List ℕ). l ++ linesFrom session (suc call) (answers zeros (happens zeros b e .book) es)) (sym (append-nil (line session call (happens zeros b e .answer))))
 
 -- one event whose line is written
-pub plays-one : (e : Event) (session call : ℕ) (given leaves : World) (before : List ℕ) (at : ℕ) (after : List ℕ) (to : ℕ) (a : Answer)
-    → ((b : Book) → Represents zeros b given → Answers b e a leaves) → Written before at (line session call a) to after → to ≤ at + lineLength
-    → Plays (e ∷ []) session call given leaves before at after to
-plays-one e session call given leaves before at after to a answers written room = record {
+pub plays-one : (e : Event) (session call : ℕ) (given : World) (before : List ℕ) (at : ℕ) (after : List ℕ) (to : ℕ) (x : Answered)
+    → ((b : Book) → Represents zeros b given → Answers b e x) → Written before at (line session call (x .answer)) to after → to ≤ at + lineLength
+    → Plays (e ∷ []) session call given (x .world) before at after to
+plays-one e session call given before at after to x answers written room = record {
   room = room;
   by = λ b r.
       let s = answers b r in

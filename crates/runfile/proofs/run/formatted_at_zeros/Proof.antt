@@ -11,8 +11,11 @@ closed-state-requires c κs = search needs
 blank-requires : tie.Need-blank-requires
 blank-requires c κs = search needs
 
-zeroed-requires : tie.Need-zeroed-requires
-zeroed-requires c κs = search needs
+slice-aggregate-format-on : tie.Need-slice-aggregate-format-on
+slice-aggregate-format-on c = search needs
+
+format-on-requires : tie.Need-format-on-requires
+format-on-requires c κs = search needs
 
 same-length : tie.Need-same-length
 same-length c = search needs
@@ -25,11 +28,11 @@ same-length-3 c = search needs
 
 returns : tie.Need-returns
 returns c =
-    let k = c .before .before .before .before .before .before .before .before .before .before .before .before .before .before .before .before .before .pre in
-    let a = c .before .before .before .before .before .before .before .before .before .before .before .before .before .before .before .before .before .args in
-    let closed = c .before .before .before .before .before .before .before .before .before .before .before .before .before .closed-state .result in
-    let lengths = right-lengths closed (a .log .now) (a .charts .now) (a .copy .now) _ (k .0) (k .1) (k .2) (c .before .before .before .before .before .before .before .before .before .before .before .before .blank .ensures) in
-    (format-stands _ _ _ lengths (c .before .before .before .before .before .before .before .before .zeroed .ensures), refl)
+    let k = c .before .before .before .before .before .before .before .before .before .before .before .before .before .before .before .before .before .before .before .pre in
+    let a = c .before .before .before .before .before .before .before .before .before .before .before .before .before .before .before .before .before .before .before .args in
+    let closed = c .before .before .before .before .before .before .before .before .before .before .before .before .before .before .before .closed-state .result in
+    let lengths = right-lengths closed (a .log .now) (a .charts .now) (a .copy .now) _ (k .0) (k .1) (k .2) (c .before .before .before .before .before .before .before .before .before .before .before .before .before .before .blank .ensures) in
+    (format-stands _ _ lengths (c .before .before .before .before .before .before .before .before .before .format-on .ensures), refl)
 
 pub formatted-at-zeros-spec : {M : Type 1} → statement M
 formatted-at-zeros-spec =
@@ -37,7 +40,8 @@ formatted-at-zeros-spec =
     (tie.spec
     closed-state-requires
     blank-requires
-    zeroed-requires
+    slice-aggregate-format-on
+    format-on-requires
     same-length
     same-length-2
     same-length-3

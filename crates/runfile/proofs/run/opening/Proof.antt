@@ -6,8 +6,8 @@ use Rattle.runfile.proofs.Along.{plays-one}
 use Rattle.runfile.proofs.run.opening.Statement.{statement}
 use Rattle.runfile.proofs.run.opening.Tie as tie
 
-start-requires : tie.Need-start-requires
-start-requires c κs = search needs
+open-on-requires : tie.Need-open-on-requires
+open-on-requires c κs = search needs
 
 tell-requires : tie.Need-tell-requires
 tell-requires c κs = search needs
@@ -27,16 +27,16 @@ same-length-4 c = search needs
 returns : tie.Need-returns
 returns c =
     let a = c .before .before .before .before .before .before .before .before .before .before .before .before .before .before .before .before .before .before .before .before .args in
-    let post = c .before .before .before .before .before .before .before .before .before .before .start .ensures in
+    let post = c .before .before .before .before .before .before .before .before .before .before .open-on .ensures in
     let t = c .before .before .tell .ensures in
     rw (t .2, t .3)
-    (plays-one _ (a .session) 0 _ _ _ (a .point .at) _ _ _ (λ b r. open-answers b (allowance (a .fuse)) _ _ _ r post) (t .0) (t .1))
+    (plays-one _ (a .session) 0 _ _ (a .point .at) _ _ _ (λ b r. open-answers b (allowance (a .fuse)) _ _ r post) (t .0) (t .1))
 
 pub opening-spec : {M : Type 1} → statement M
 opening-spec =
     tie.close
     (tie.spec
-    start-requires
+    open-on-requires
     tell-requires
     same-length
     same-length-2

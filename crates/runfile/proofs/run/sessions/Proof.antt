@@ -4,7 +4,7 @@ use mathlib.Core.Path.{_≡_, refl, _∙_}
 use native.Mathlib.Omega.{arith}
 use borrow.Author.Needs.{needs}
 use lib.ListN.{length, getD}
-use Rattle.cores.specs.Lent.{world}
+use Rattle.state.specs.World.{world}
 use Rattle.run_reader.specs.File.{callsAt}
 use Rattle.run_lines.specs.Output.{lineLength}
 use Rattle.run_reader.proofs.RunFiles.{RunFile, run-file, entry-within}

@@ -9,6 +9,12 @@ use Rattle.run_lines.proofs.Decimals.{line-length}
 use Rattle.runfile.proofs.run.tell.Statement.{statement}
 use Rattle.runfile.proofs.run.tell.Tie as tie
 
+number-of-requires : tie.Need-number-of-requires
+number-of-requires c κs = search needs
+
+value-of-requires : tie.Need-value-of-requires
+value-of-requires c κs = search needs
+
 put-line-requires : tie.Need-put-line-requires
 put-line-requires c κs = search needs
 
@@ -17,12 +23,13 @@ same-length c = search needs
 
 returns : tie.Need-returns
 returns c =
-    let told = c .before .before .before .struct-told .given in
-    let a = c .before .before .before .before .before .before .before .before .before .args in
-    let fits : SFits w32 (a .ran .answer .value) = record { sfits = told .1 .0 .1 } in
+    let a = c .before .before .before .before .before .before .before .before .before .before .args in
+    let n = c .before .before .before .before .number-of in
+    let v = c .before .before .before .value-of in
+    let fits : SFits w32 (v .result) = record { sfits = v .ok } in
     let written = rw (toZ-ofZ fits) at (c .before .before .put-line .ensures) in
-    let long = line-length (a .session) (a .call) (a .ran .answer .number) (a .ran .answer .value) (omega arith) (omega arith) (omega (arith, told .0 .1)) fits in
-    (written, omega (arith, written .place), refl, refl)
+    let long = line-length (a .session) (a .call) (n .result) (v .result) (omega arith) (omega arith) (omega (arith, n .ok)) fits in
+    (rw (← n .ensures, ← v .ensures) written, omega (arith, written .place), refl, refl)
 
 pub tell-spec : {M : Type 1} → statement M
-tell-spec = tie.close (tie.spec put-line-requires same-length returns)
+tell-spec = tie.close (tie.spec number-of-requires value-of-requires put-line-requires same-length returns)

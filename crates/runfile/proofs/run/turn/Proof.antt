@@ -8,8 +8,8 @@ use Rattle.runfile.proofs.run.turn.Tie as tie
 call-at-requires : tie.Need-call-at-requires
 call-at-requires c κs = search needs
 
-perform-requires : tie.Need-perform-requires
-perform-requires c κs = search needs
+call-on-requires : tie.Need-call-on-requires
+call-on-requires c κs = search needs
 
 tell-requires : tie.Need-tell-requires
 tell-requires c κs = search needs
@@ -29,17 +29,17 @@ same-length-4 c = search needs
 returns : tie.Need-returns
 returns c =
     let a = c .before .before .before .before .before .before .before .before .before .before .before .before .before .before .before .before .before .before .before .before .before .before .args in
-    let post = rw (c .before .before .before .before .before .before .before .before .before .before .before .before .before .before .call-at .ensures) at (c .before .before .before .before .before .before .before .before .before .before .perform .ensures) in
+    let post = rw (c .before .before .before .before .before .before .before .before .before .before .before .before .before .before .call-at .ensures) at (c .before .before .before .before .before .before .before .before .before .before .call-on .ensures) in
     let t = c .before .before .tell .ensures in
     rw (t .2, t .3)
-    (plays-one _ (a .session) (a .call) _ _ _ (a .point .at) _ _ _ (λ b r. call-answers b (a .file .now) (a .place) _ _ _ r post) (t .0) (t .1))
+    (plays-one _ (a .session) (a .call) _ _ (a .point .at) _ _ _ (λ b r. call-answers b (a .file .now) (a .place) _ _ r post) (t .0) (t .1))
 
 pub turn-spec : {M : Type 1} → statement M
 turn-spec =
     tie.close
     (tie.spec
     call-at-requires
-    perform-requires
+    call-on-requires
     tell-requires
     same-length
     same-length-2

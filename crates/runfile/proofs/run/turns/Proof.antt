@@ -3,7 +3,7 @@ use Prim.Native.Nat.{_-_}
 use mathlib.Core.Path.{_≡_, refl, _∙_}
 use native.Mathlib.Omega.{arith}
 use lib.ListN.{length}
-use Rattle.cores.specs.Lent.{world}
+use Rattle.state.specs.World.{world}
 use Rattle.runfile.proofs.Turns.{InTurns, turns-none, turns-more, turns-all}
 use Rattle.runfile.proofs.run.turns.Statement.{statement}
 use Rattle.runfile.proofs.run.turns.Tie as tie
