@@ -1,6 +1,5 @@
 -- The calls of an open store with their arguments (document 01, "Calls"), and in one place for each what it does after its rows and what it returns.
 use Prim.Native.Nat.{ℕ}
-use mathlib.Core.Bool.{Bool}
 use lib.IntN.{ℤ}
 use lib.Dec.{T}
 use Rattle.book.specs.Rows.{isAmount}

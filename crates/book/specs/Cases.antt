@@ -1,6 +1,6 @@
 -- The cases of document 01 that are marked *, as one conjunction over the definitions.
 use Prim.Native.Nat.{ℕ}
-use mathlib.Core.Bool.{Bool, true, false, not}
+use mathlib.Core.Bool.{Bool, true, not}
 use mathlib.Core.Path.{_≡_}
 use mathlib.Core.List.{List, [], _∷_, map}
 use lib.ListN.{replicate}
@@ -9,7 +9,7 @@ use lib.Dec.{eqb}
 use Rattle.book.specs.Lists.{keep}
 use Rattle.book.specs.Rows.{Row, undoneBy}
 use Rattle.book.specs.Calls.{Call}
-use Rattle.book.specs.Power.{Book, Fuse, none, left, formatted}
+use Rattle.book.specs.Power.{none, left, formatted}
 use Rattle.book.specs.Book.{Answer, answer}
 use Rattle.book.specs.Events.{Event, opens, calls, happens, answers, bookAfter}
 use Rattle.book.specs.LogBytes.{logBytes}

@@ -1,6 +1,6 @@
 -- The stored log as bytes (document 01, "The store"), and what the check of an opening reads in it ("Refusals by place", open, log).
 use Prim.Native.Nat.{ℕ, zero, suc}
-use mathlib.Core.Bool.{Bool, cond, not, _&&_}
+use mathlib.Core.Bool.{cond, not, _&&_}
 use mathlib.Core.List.{List, [], _∷_, _++_}
 use lib.ListN.{getD, take, drop, replicate}
 use lib.Dec.{eqb}

@@ -8,7 +8,7 @@ use lib.Dec.{eqb}
 use Rattle.book.specs.Lists.{In, keep}
 use Rattle.book.specs.Limits.{tailLimit}
 use Rattle.book.specs.Rows.{Row, undoneBy, abortedBy}
-use Rattle.book.specs.Ledger.{Change, Ledger, ledger}
+use Rattle.book.specs.Ledger.{Change, ledger}
 use Rattle.book.specs.Rules.{isActive, bearsUndo, allowedLog}
 use Rattle.book.specs.Cells.{isKept}
 use Rattle.book.specs.Power.{Book, none, rowsOf, ledgerOf}

@@ -1,9 +1,9 @@
 -- 01, open, over the stored bytes: it checks log, then pages, and loads the copy; forward, backward, force.
 use Prim.Native.Nat.{ℕ}
-use mathlib.Core.Bool.{Bool, cond}
+use mathlib.Core.Bool.{cond}
 use mathlib.Core.List.{List, []}
 use lib.ListN.{replicate}
-use lib.IntN.{ℤ, pos}
+use lib.IntN.{pos}
 use lib.Dec.{ltb}
 use Rattle.book.specs.Lists.{firstFailing}
 use Rattle.book.specs.Limits.{pageLimit, chartsLength}

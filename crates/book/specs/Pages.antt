@@ -2,9 +2,9 @@
 -- A page is judged and redone by its own 32 bytes and its number.
 use Prim.Native.Nat.{ℕ, _+_, _-_, _*_, _%_}
 use mathlib.Core.Bool.{Bool, _&&_, _||_}
-use mathlib.Core.List.{List, [], _∷_, _++_, map}
+use mathlib.Core.List.{List, _++_, map}
 use lib.ListN.{getD, take, drop}
-use lib.IntN.{ℤ, pos, _+ℤ_}
+use lib.IntN.{ℤ, _+ℤ_}
 use lib.Dec.{eqb}
 use Rattle.book.specs.Lists.{total, tabulate, firstFailing, join}
 use Rattle.book.specs.Limits.{places, pageLimit, pageLength, chartBound}

@@ -8,7 +8,7 @@ use lib.ListN.{length, take}
 use Rattle.book.specs.Limits.{rowLimit, rowLength, logLength}
 use Rattle.book.specs.Rows.{Row}
 use Rattle.book.specs.Rules.{allowedLog}
-use Rattle.book.specs.LogBytes.{logBytes, Log, good, bad, readLog}
+use Rattle.book.specs.LogBytes.{logBytes, good, bad, readLog}
 
 -- the bytes of the first n rows
 abbrev pub firstRows : ℕ → List ℕ → List ℕ

@@ -1,6 +1,6 @@
 -- The rows of the log as events (document 01, "The store"): their kinds, what each does to the charts, and which fields fit their bytes.
-use Prim.Native.Nat.{ℕ, suc}
-use mathlib.Core.Bool.{Bool, true, false, _&&_}
+use Prim.Native.Nat.{ℕ}
+use mathlib.Core.Bool.{Bool, _&&_}
 use lib.IntN.{ℤ, pos, negsuc, negℤ}
 use lib.Signed.{leZ}
 use lib.Dec.{leb, ltb}

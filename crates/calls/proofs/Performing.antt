@@ -1,9 +1,9 @@
 -- The checks of a call in their order, and what is left after it, by what the functions have found. Assumes nothing.
 use Prim.Native.Nat.{ℕ, zero, suc, _+_, _≤_}
 use mathlib.Core.Path.{_≡_, refl}
-use mathlib.Core.Bool.{Bool, true, false, not, _&&_}
+use mathlib.Core.Bool.{true, false, not, _&&_}
 use mathlib.Core.List.{List, map}
-use lib.IntN.{ℤ, pos}
+use lib.IntN.{pos}
 use lib.Dec.{leb}
 use borrow.Author.Tests.{leb-true, not-false, eq-eqb}
 use lib.ListN.{length}

@@ -3,11 +3,10 @@
 use Prim.Native.Nat.{ℕ}
 use mathlib.Core.Path.{_≡_, refl, ap, ap₂, _∙_}
 use mathlib.Core.Bool.{Bool, true, false, cond}
-use mathlib.Core.List.{List, [], _∷_, _++_, map}
+use mathlib.Core.List.{List, [], _∷_, map}
 use lib.IntN.{ℤ, pos}
 use Rattle.tables_model.specs.Entries.{scopeOf, scopeIn}
 use Rattle.book.specs.Rows.{Row}
-use Rattle.book.specs.Rules.{allowedLog}
 use Rattle.book.specs.Scopes.{Scope}
 use Rattle.book.specs.Power.{Book, Fuse, rowsOf, ledgerOf}
 use Rattle.book.specs.Book.{answer, refused, ended}
@@ -19,7 +18,7 @@ use Rattle.book.proofs.Steps.{bookOf}
 use Rattle.tables_model.specs.Rows.{Index}
 use Rattle.tables_model.specs.Meaning.{tablesOf, scopeTable, indexOf}
 use Rattle.tables_model.specs.declared.Scope as ram
-use Rattle.state.specs.World.{World, openState, stateOf, tableOf, copyOf, worldOf, cleared}
+use Rattle.state.specs.World.{World, stateOf, tableOf, copyOf, worldOf, cleared}
 use Rattle.state.specs.Contracts.{Answered, answered}
 use Rattle.journal.specs.Journal.{Journal}
 use Rattle.journal.specs.Meaning.{controlOf, journalOf}

@@ -1,16 +1,14 @@
 -- A call from its checks to what it gives back and leaves, for whatever it is handed.
-use Prim.Native.Nat.{ℕ, zero, suc, _+_, _%_}
+use Prim.Native.Nat.{ℕ, zero, suc, _+_}
 use mathlib.Core.Path.{_≡_}
 use mathlib.Core.Bool.{Bool, cond, not, _&&_}
 use mathlib.Core.List.{List, map}
 use lib.IntN.{ℤ, pos}
-use lib.ListN.{replicate}
-use lib.Dec.{leb, eqb}
+use lib.Dec.{leb}
 use Rattle.book.specs.Limits.{logLength, chartsLength, rowLimit, tailLimit, activeLimit, scopeLimit}
 use Rattle.book.specs.Scopes.{Scope as Entry}
 use Rattle.book.specs.Calls.{Call}
 use Rattle.book.specs.Book.{_else_}
-use Rattle.tables_model.specs.declared.Scope.{Scope}
 use Rattle.tables_model.specs.declared.Tables.{Tables}
 use Rattle.tables_model.specs.Entries.{scopeIn, scopeOf, entries}
 use Rattle.state.specs.declared.ram.State.{State}

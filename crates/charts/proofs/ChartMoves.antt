@@ -11,7 +11,7 @@ use lib.IntN.{ℤ, _+ℤ_, +ℤ-assoc, +ℤ-idr}
 use lib.Dec.{eqb, ltb}
 use borrow.Author.Tests.{eq-eqb, ne-eqb, eqb-true, eqb-false, ltb-true, ltb-false, le-leb}
 use Rattle.book.specs.Rows.{Row, Effect, nothing, moves, effect}
-use Rattle.book.specs.Cells.{moved, movedBy, applied, touches, onPage, lastOn}
+use Rattle.book.specs.Cells.{moved, movedBy, touches, onPage, lastOn}
 use Rattle.book.specs.Pages.{Page, pageBytes, chartBytes, pageAfter}
 use Rattle.book.proofs.Marks.{sumOf, sum-append}
 use Rattle.book.proofs.Pages.{chart-long, page-at, SamePage, chart-same}

@@ -1,26 +1,22 @@
 -- The checks of a call in their order, and what the core of a call promises by what was performed. Assumes nothing.
-use Prim.Native.Nat.{ℕ, zero, suc}
+use Prim.Native.Nat.{ℕ}
 use mathlib.Core.Path.{_≡_, refl, sym, _∙_, subst}
 use mathlib.Core.Logic.{_≢_}
 use mathlib.Core.Bool.{Bool, true, false, cond, _&&_, and-false}
-use mathlib.Core.List.{List, map}
+use mathlib.Core.List.{List}
 use lib.ListN.{length}
-use lib.IntN.{ℤ, pos}
+use lib.IntN.{pos}
 use lib.Dec.{eqb}
 use borrow.Author.Tests.{eqb-true, eq-eqb, ne-eqb}
 use Rattle.book.specs.Limits.{scopeLimit, logLength, chartsLength}
 use Rattle.book.specs.Calls.{Call, Typed}
-use Rattle.book.specs.Book.{Answer}
 use Rattle.book.proofs.Lists.{and-l, and-r}
-use Rattle.tables_model.specs.Entries.{entries, scopeIn}
 use Rattle.tables_model.specs.declared.Scope.{Scope}
 use Rattle.state.specs.declared.answers.Result.{Result}
 use Rattle.state.specs.declared.ram.State.{State}
-use Rattle.state.specs.Answers.{refusedBy}
 use Rattle.state.specs.World.{World, world}
 use Rattle.state.specs.Contracts.{Answered, answered, returned, CallPost}
-use Rattle.calls_model.specs.Acts.{core}
-use Rattle.calls_model.specs.Perform.{controlIn, coreOf, decided, numberBy, numberOf, performed, accepted, Lent}
+use Rattle.calls_model.specs.Perform.{numberOf, performed, Lent}
 use Rattle.calls_model.proofs.AnyWorld.{wrong-lengths}
 use Rattle.calls_model.proofs.Post.{performed-post}
 use Rattle.cores.specs.Lent.{ByValue}

@@ -1,9 +1,6 @@
 // The calls of an open store: every check in document 01's order, the lengths first, on a flat copy of the table; then the call.
 ghost use mathlib.Core.Path.{_≡_};
-ghost use mathlib.Core.List.{List};
-ghost use Prim.Native.Nat.{ℕ};
 ghost use lib.ListN.{length};
-ghost use Rattle.state.specs.Answers.{numberAndValue};
 ghost use Rattle.state.specs.Contracts.{returned, CallPost};
 ghost use Rattle.state.specs.Requests.{callOf};
 ghost use Rattle.state.specs.World.{world};

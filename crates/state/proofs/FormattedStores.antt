@@ -10,7 +10,6 @@ use lib.Dec.{eqb, ltb}
 use borrow.Author.Tests.{eqb-true, ltb-true, ltb-false}
 use Rattle.book.specs.Limits.{cellLimit, formatBound}
 use Rattle.book.specs.Power.{formatted}
-use Rattle.book.specs.Book.{Answer}
 use Rattle.book.specs.Numbers.{within}
 use Rattle.book.specs.LogBytes.{logBytes}
 use Rattle.book.specs.Pages.{chartBytes, pageAfter}

@@ -7,7 +7,7 @@ use lib.IntN.{ℤ}
 use Rattle.book.specs.Limits.{cellLimit, chartBound, moveBound}
 use Rattle.book.specs.Calls.{Call, Typed, ending}
 use Rattle.book.specs.Power.{Book}
-use Rattle.book.specs.Book.{Answer, call}
+use Rattle.book.specs.Book.{call}
 use Rattle.book.specs.Numbers.{within}
 use Rattle.book.specs.Logs.{Sound}
 use Rattle.book.proofs.Sound.{sound-call}

@@ -13,7 +13,7 @@ use Rattle.book.specs.Rows.{Row}
 use Rattle.book.specs.Rules.{allowedLog}
 use Rattle.book.specs.Cells.{lastOn}
 use Rattle.book.specs.Power.{Book, Fuse}
-use Rattle.book.specs.Book.{Answer, reopened, reopen}
+use Rattle.book.specs.Book.{reopened, reopen}
 use Rattle.book.specs.LogBytes.{Log, good, bad, logBytes, readLog}
 use Rattle.book.specs.Reading.{Demand2Reading}
 use Rattle.book.specs.Pages.{pageAt, isPage}

@@ -8,7 +8,7 @@ use Rattle.state.specs.Answers.{numberAndValue, refusedBy}
 use Rattle.state.specs.Requests.{callOf}
 use Rattle.state.specs.World.{World, world}
 use Rattle.calls_model.specs.Perform.{numberOf, performed}
-use Rattle.calls.proofs.Performing.{Passed, passed, right-number, when-refused, when-accepted}
+use Rattle.calls.proofs.Performing.{passed, right-number, when-refused, when-accepted}
 use borrow.Author.Needs.{needs}
 use Rattle.cores.proofs.call.decide.Statement.{statement}
 use Rattle.cores.proofs.call.decide.Tie as tie

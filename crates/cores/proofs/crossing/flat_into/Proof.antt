@@ -1,9 +1,9 @@
 -- `cores::crossing::flat_into` meets its contract. Assumes nothing.
 use Prim.Native.Nat.{_-_, _≤_, _<_}
-use mathlib.Core.Path.{_≡_, refl, _∙_, ap}
+use mathlib.Core.Path.{_≡_, refl, _∙_}
 use mathlib.Core.List.{map}
 use native.Mathlib.Omega.{arith}
-use lib.ListN.{length, take, set}
+use lib.ListN.{length, take}
 use Rattle.book.specs.Scopes.{unused}
 use Rattle.tables_model.specs.Entries.{entries, scopeOf, scopeIn}
 use Rattle.tables.proofs.Flat.{entries-length}

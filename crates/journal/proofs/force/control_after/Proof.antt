@@ -1,7 +1,5 @@
 use Rattle.journal.proofs.force.control_after.Statement.{statement}
 use Rattle.journal.proofs.force.control_after.Tie as tie
-use Rattle.journal.proofs.force.control_after.Reads as reads
-use Rattle.journal.proofs.force.control_after.Lts as lts
 
 -- src/force.rt:55:1
 returns : tie.Need-returns

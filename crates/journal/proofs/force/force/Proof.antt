@@ -2,11 +2,6 @@ use Rattle.journal.specs.Journal.{forced}
 use borrow.Author.Needs.{needs}
 use Rattle.journal.proofs.force.force.Statement.{statement}
 use Rattle.journal.proofs.force.force.Tie as tie
-use Rattle.journal.proofs.force.force.Reads as reads
-use Rattle.journal.proofs.force.force.Lts as lts
-use Rattle.journal.proofs.force.control_after.Reads as control-after-reads
-use Rattle.journal.proofs.force.store_tail.Reads as store-tail-reads
-use Rattle.journal.proofs.writes.clear.Reads as clear-reads
 
 -- src/force.rt:83:9
 store-tail-requires : tie.Need-store-tail-requires

@@ -2,12 +2,6 @@ use Rattle.journal.specs.Journal.{forcedUpTo}
 use borrow.Author.Needs.{needs}
 use Rattle.journal.proofs.force.force_up_to.Statement.{statement}
 use Rattle.journal.proofs.force.force_up_to.Tie as tie
-use Rattle.journal.proofs.force.force_up_to.Reads as reads
-use Rattle.journal.proofs.force.force_up_to.Lts as lts
-use Rattle.journal.proofs.force.control_after.Reads as control-after-reads
-use Rattle.journal.proofs.force.shift.Reads as shift-reads
-use Rattle.journal.proofs.force.store_tail.Reads as store-tail-reads
-use Rattle.journal.proofs.writes.clear.Reads as clear-reads
 
 -- src/force.rt:109:9
 store-tail-requires : tie.Need-store-tail-requires

@@ -7,9 +7,6 @@ use lib.ListN.{length, take, drop, set, getD, replicate, length-set, length-take
 use Rattle.journal.proofs.Shifts.{moved, moved-more, moved-all}
 use Rattle.journal.proofs.force.shift.Statement.{statement}
 use Rattle.journal.proofs.force.shift.Tie as tie
-use Rattle.journal.proofs.force.shift.Reads as reads
-use Rattle.journal.proofs.force.shift.Lts as lts
-use Rattle.journal.proofs.writes.clear.Reads as clear-reads
 
 abbrev Inv-loop : tie.InvT-loop
 Inv-loop tail₀ m gap keep i₀ tail i = (i ≤ keep) × (length tail ≡ length tail₀) × (tail ≡ moved gap i tail₀)

@@ -9,9 +9,6 @@ use Rattle.journal.specs.Force.{runs, chunks, Ran}
 use Rattle.journal.proofs.Turns.{turn, turn-cut, turns-end}
 use Rattle.journal.proofs.force.store_tail.Statement.{statement}
 use Rattle.journal.proofs.force.store_tail.Tie as tie
-use Rattle.journal.proofs.force.store_tail.Reads as reads
-use Rattle.journal.proofs.force.store_tail.Lts as lts
-use Rattle.journal.proofs.writes.store_row.Reads as store-row-reads
 
 abbrev Inv-loop : tie.InvT-loop
 Inv-loop stored m log₀ tail fuse₀ j₀ log fuse j =

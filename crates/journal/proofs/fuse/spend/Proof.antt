@@ -2,8 +2,6 @@ use Rattle.journal.proofs.Fuses.{some-left}
 use borrow.Author.Needs.{needs}
 use Rattle.journal.proofs.fuse.spend.Statement.{statement}
 use Rattle.journal.proofs.fuse.spend.Tie as tie
-use Rattle.journal.proofs.fuse.spend.Reads as reads
-use Rattle.journal.proofs.fuse.spend.Lts as lts
 
 -- src/fuse.rt:16:28
 enum-told : tie.Need-enum-told

@@ -3,9 +3,6 @@ use Rattle.journal.specs.Journal.{paged}
 use borrow.Author.Needs.{needs}
 use Rattle.journal.proofs.pages.write_page.Statement.{statement}
 use Rattle.journal.proofs.pages.write_page.Tie as tie
-use Rattle.journal.proofs.pages.write_page.Reads as reads
-use Rattle.journal.proofs.pages.write_page.Lts as lts
-use Rattle.journal.proofs.writes.store_page.Reads as store-page-reads
 
 -- src/pages.rt:20:13
 enum-told : tie.Need-enum-told

@@ -6,11 +6,6 @@ use Rattle.journal.proofs.Room.{roomy, with-log}
 use borrow.Author.Needs.{needs}
 use Rattle.journal.proofs.tail.append.Statement.{statement}
 use Rattle.journal.proofs.tail.append.Tie as tie
-use Rattle.journal.proofs.tail.append.Reads as reads
-use Rattle.journal.proofs.tail.append.Lts as lts
-use Rattle.journal.proofs.tail.close.Reads as close-reads
-use Rattle.journal.proofs.tail.join.Reads as join-reads
-use Rattle.journal.proofs.tail.make_room.Reads as make-room-reads
 
 -- src/tail.rt:66:9
 make-room-requires : tie.Need-make-room-requires

@@ -1,9 +1,6 @@
 use borrow.Author.Needs.{needs}
 use Rattle.journal.proofs.tail.close.Statement.{statement}
 use Rattle.journal.proofs.tail.close.Tie as tie
-use Rattle.journal.proofs.tail.close.Reads as reads
-use Rattle.journal.proofs.tail.close.Lts as lts
-use Rattle.journal.proofs.writes.clear.Reads as clear-reads
 
 -- src/tail.rt:52:5
 clear-requires : tie.Need-clear-requires

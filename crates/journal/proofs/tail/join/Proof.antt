@@ -5,9 +5,6 @@ use native.Mathlib.Omega.{arith}
 use borrow.Author.Needs.{needs}
 use Rattle.journal.proofs.tail.join.Statement.{statement}
 use Rattle.journal.proofs.tail.join.Tie as tie
-use Rattle.journal.proofs.tail.join.Reads as reads
-use Rattle.journal.proofs.tail.join.Lts as lts
-use Rattle.rows.proofs.writer.write_row.Reads as write-row-reads
 
 -- src/tail.rt:36:18
 add-t10 : tie.Need-add-t10

@@ -3,9 +3,6 @@ use Rattle.journal.specs.Journal.{withRoom}
 use borrow.Author.Needs.{needs}
 use Rattle.journal.proofs.tail.make_room.Statement.{statement}
 use Rattle.journal.proofs.tail.make_room.Tie as tie
-use Rattle.journal.proofs.tail.make_room.Reads as reads
-use Rattle.journal.proofs.tail.make_room.Lts as lts
-use Rattle.journal.proofs.force.force.Reads as force-reads
 
 -- src/tail.rt:23:9
 force-requires : tie.Need-force-requires

@@ -8,8 +8,6 @@ use lib.Seq.{drop-length}
 use borrow.Author.Fill.{fill-none, fill-more}
 use Rattle.journal.proofs.writes.clear.Statement.{statement}
 use Rattle.journal.proofs.writes.clear.Tie as tie
-use Rattle.journal.proofs.writes.clear.Reads as reads
-use Rattle.journal.proofs.writes.clear.Lts as lts
 
 abbrev Inv-loop : tie.InvT-loop
 Inv-loop b₀ i₀ b i = (i ≤ length b₀) × (length b ≡ length b₀) × (b ≡ replicate i 0 ++ drop i b₀)

@@ -6,10 +6,6 @@ use Rattle.journal.proofs.Shifts.{copied}
 use borrow.Author.Needs.{needs}
 use Rattle.journal.proofs.writes.store_row.Statement.{statement}
 use Rattle.journal.proofs.writes.store_row.Tie as tie
-use Rattle.journal.proofs.writes.store_row.Reads as reads
-use Rattle.journal.proofs.writes.store_row.Lts as lts
-use Rattle.bytes.proofs.copy.Reads as copy-reads
-use Rattle.journal.proofs.fuse.spend.Reads as spend-reads
 
 -- src/writes.rt:25:9
 spend-requires : tie.Need-spend-requires
