@@ -11,9 +11,9 @@ use lib.Dec.{eqb, leb, ltb}
 use borrow.Author.Tests.{eqb-true, eq-eqb, ne-eqb, le-leb}
 use Rattle.book.specs.Lists.{any, eqZ}
 use Rattle.book.specs.Limits.{rowLimit, activeLimit, scopeLimit}
-use Rattle.book.specs.Rows.{Row, begin, change, handOver, undo, commit, abort, undoneBy, fits}
+use Rattle.book.specs.Rows.{Row, begin, change, handOver, undo, commit, abort, undoneBy}
 use Rattle.book.specs.Ledger.{Change, Ledger, only, holds, ledger}
-use Rattle.book.specs.Rules.{isActive, bearsUndo, openChanges, openHeld, just, room, startsInUse, scopeFits, holdsAny, isFirst, lawful, withinLimits, allowed, allowedLog}
+use Rattle.book.specs.Rules.{isActive, bearsUndo, openChanges, openHeld, just, room, startsInUse, scopeFits, holdsAny, isFirst, lawful, withinLimits, allowedLog}
 use Rattle.book.specs.Rules as book
 use Rattle.book.specs.Scopes.{unused, firstRow, entryOf, scopesOf}
 use Rattle.book.specs.Pages.{rowAt}
@@ -197,20 +197,3 @@ module _ (rs : List Row) (al : allowedLog rs ≡ true) where
             ≡ cond t (cond (withinLimits (ledger rs) r) Allowed OverLimit) Unlawful
         go true e = ap (λ (b : Bool). cond b Allowed OverLimit) (within-by r e)
         go false e = refl
-
-    -- a row whose fields fit is allowed exactly when the tables say so
-    pub judge-allowed : fits r ≡ true → judgeBy (indexOf (ledger rs)) (length rs) named r ≡ Allowed → allowed (ledger rs) r ≡ true
-    unfolding allowed
-    judge-allowed f e = go (lawful (ledger rs) r) refl (withinLimits (ledger rs) r) refl (sym judge-by ∙ e)
-      where
-        go : (s : Bool) → lawful (ledger rs) r ≡ s → (t : Bool) → withinLimits (ledger rs) r ≡ t → cond s (cond t Allowed OverLimit) Unlawful ≡ Allowed
-            → (fits r && lawful (ledger rs) r && withinLimits (ledger rs) r) ≡ true
-        go true p true q k = and-i _ _ (and-i _ _ f p) q
-        go true p false q k = let z : _≡_ {A = ℕ} 0 1 = cc in absurd (omega arith)
-        go false p t q k = let z : _≡_ {A = ℕ} 0 1 = cc in absurd (omega arith)
-
-    pub allowed-judge : allowed (ledger rs) r ≡ true → judgeBy (indexOf (ledger rs)) (length rs) named r ≡ Allowed
-    unfolding allowed
-    allowed-judge e =
-        let law : lawful (ledger rs) r ≡ true = search (and-l, and-r) in
-        let within : withinLimits (ledger rs) r ≡ true = search (and-l, and-r) in judge-by ∙ rw (law, within)

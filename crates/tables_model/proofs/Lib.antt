@@ -1,4 +1,3 @@
-pub mod Entries
 pub mod Reversed
 pub mod Padded
 pub mod Looking
