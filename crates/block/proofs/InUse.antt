@@ -98,10 +98,10 @@ none-read bs flat e =
     sym (ap (map entryOf) (none-in-use (allIn bs) ∙ ap (λ (n : ℕ). replicate n (scopeOf unused)) (all-long bs)))
 
 -- one more was read
-pub next-read : (bs : List ℕ) (es : List Entry) (i : ℕ) (e : Entry) → i < 64 → es ≡ map entryOf (tableIn i bs) → e ≡ entryOf (scopeIn (part (12 * i) 12 bs))
-    → set es i e ≡ map entryOf (tableIn (i + 1) bs)
+pub next-read : (bs : List ℕ) (es : List Entry) (i : ℕ) (s : Scope) → i < 64 → es ≡ map entryOf (tableIn i bs) → s ≡ scopeIn (part (12 * i) 12 bs)
+    → set es i (entryOf s) ≡ map entryOf (tableIn (i + 1) bs)
 unfolding allIn
-next-read bs es i e h upto is =
+next-read bs es i s h upto is =
     let z : 0 + i ≡ i = omega arith in
     rw (add-one, upto, is) (rw z at (one-more entryOf 64 0 i (λ j. scopeIn (part (12 * j) 12 bs)) h))
 

@@ -12,7 +12,7 @@ use Rattle.book.specs.Calls.{Call, ending}
 use Rattle.book.specs.Ledger.{Ledger}
 use Rattle.book.specs.Scopes.{unused, scopesOf}
 use Rattle.book.specs.Power.{Book, ledgerOf}
-use Rattle.book.specs.Book.{Answer, Outcome, call}
+use Rattle.book.specs.Book.{Outcome, call}
 use Rattle.tables_model.specs.Meaning.{tablesOf, scopeTable}
 use Rattle.tables_model.specs.declared.Scope.{Scope}
 use Rattle.state.specs.World.{World, openState, closedState, cleared, worldOf, stateOf as bookState, tableOf as bookTable}

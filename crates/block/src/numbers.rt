@@ -15,13 +15,6 @@ fn wide(x: u8) -> u32
     x as u32
 }
 
-// A byte as 16 bits.
-pub(crate) fn widened(x: u8) -> u16
-    ensures { λ r. ⌜ r ≡ x ⌝ }
-{
-    x as u16
-}
-
 // The number in two bytes.
 pub(crate) fn read16(b: &[u8], at: usize) -> u16
     requires { ⌜ at + 2 ≤ length (now b) ⌝ }

@@ -9,11 +9,8 @@ read16-requires c κs = search needs
 read16-requires-2 : tie.Need-read16-requires-2
 read16-requires-2 c κs = search needs
 
-shared-slice-read-widened : tie.Need-shared-slice-read-widened
-shared-slice-read-widened c = search needs
-
-widened-requires : tie.Need-widened-requires
-widened-requires c κs = search needs
+shared-slice-read-t7 : tie.Need-shared-slice-read-t7
+shared-slice-read-t7 c = search needs
 
 read16-requires-3 : tie.Need-read16-requires-3
 read16-requires-3 c κs = search needs
@@ -21,8 +18,8 @@ read16-requires-3 c κs = search needs
 read16-requires-4 : tie.Need-read16-requires-4
 read16-requires-4 c κs = search needs
 
-shared-slice-read-t10 : tie.Need-shared-slice-read-t10
-shared-slice-read-t10 c = search needs
+shared-slice-read-t14 : tie.Need-shared-slice-read-t14
+shared-slice-read-t14 c = search needs
 
 read16-requires-5 : tie.Need-read16-requires-5
 read16-requires-5 c κs = search needs
@@ -30,9 +27,8 @@ read16-requires-5 c κs = search needs
 returns : tie.Need-returns
 returns c =
     rw (
-      c .before .before .before .before .before .before .before .read16 .ensures,
-      c .before .before .before .before .before .before .read162 .ensures,
-      c .before .before .before .before .widened .ensures,
+      c .before .before .before .before .before .before .read16 .ensures,
+      c .before .before .before .before .before .read162 .ensures,
       c .before .before .before .read163 .ensures,
       c .before .before .read164 .ensures,
       c .read165 .ensures,
@@ -44,10 +40,9 @@ read-entry-spec =
     (tie.spec
     read16-requires
     read16-requires-2
-    shared-slice-read-widened
-    widened-requires
+    shared-slice-read-t7
     read16-requires-3
     read16-requires-4
-    shared-slice-read-t10
+    shared-slice-read-t14
     read16-requires-5
     returns)

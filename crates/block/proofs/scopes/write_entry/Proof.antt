@@ -1,6 +1,5 @@
 -- `block::scopes::write_entry` meets its contract. Assumes nothing.
 use mathlib.Core.Path.{refl}
-use Rattle.tables_model.specs.Entries.{scopeIn as entryOf}
 use Rattle.block.proofs.Records.{scope-is}
 use borrow.Author.Needs.{needs}
 use Rattle.block.proofs.scopes.write_entry.Statement.{statement}
@@ -21,41 +20,38 @@ bytes16-requires-4 c κs = search needs
 bytes16-requires-5 : tie.Need-bytes16-requires-5
 bytes16-requires-5 c κs = search needs
 
-cast-cell : tie.Need-cast-cell
-cast-cell c = search needs
-
 flag-requires : tie.Need-flag-requires
 flag-requires c κs = search needs
 
-array-read-t15 : tie.Need-array-read-t15
-array-read-t15 c = search needs
+array-read-t13 : tie.Need-array-read-t13
+array-read-t13 c = search needs
 
-array-read-t18 : tie.Need-array-read-t18
-array-read-t18 c = search needs
+array-read-t16 : tie.Need-array-read-t16
+array-read-t16 c = search needs
 
-array-read-t21 : tie.Need-array-read-t21
-array-read-t21 c = search needs
+array-read-t19 : tie.Need-array-read-t19
+array-read-t19 c = search needs
 
-array-read-t24 : tie.Need-array-read-t24
-array-read-t24 c = search needs
+array-read-t22 : tie.Need-array-read-t22
+array-read-t22 c = search needs
 
-array-read-t27 : tie.Need-array-read-t27
-array-read-t27 c = search needs
+array-read-t25 : tie.Need-array-read-t25
+array-read-t25 c = search needs
 
-array-read-t30 : tie.Need-array-read-t30
-array-read-t30 c = search needs
+array-read-t28 : tie.Need-array-read-t28
+array-read-t28 c = search needs
 
-array-read-t33 : tie.Need-array-read-t33
-array-read-t33 c = search needs
+array-read-t31 : tie.Need-array-read-t31
+array-read-t31 c = search needs
 
-array-read-t36 : tie.Need-array-read-t36
-array-read-t36 c = search needs
+array-read-t34 : tie.Need-array-read-t34
+array-read-t34 c = search needs
 
-array-read-t39 : tie.Need-array-read-t39
-array-read-t39 c = search needs
+array-read-t37 : tie.Need-array-read-t37
+array-read-t37 c = search needs
 
-array-read-t42 : tie.Need-array-read-t42
-array-read-t42 c = search needs
+array-read-t40 : tie.Need-array-read-t40
+array-read-t40 c = search needs
 
 slice-aggregate-copy : tie.Need-slice-aggregate-copy
 slice-aggregate-copy c = search needs
@@ -68,8 +64,7 @@ same-length c = search needs
 
 returns : tie.Need-returns
 returns c =
-    scope-is (scopeOf (entryOf (c .before .before .before .before .before .before .before .before .before .before .before .before .before .args .s))) (c .before .before .copy .ensures .1) (c .before .before .before .before .before .before .before .before .before .before .before .bytes16 .ensures .1) (c .before .before .before .before .before .before .before .before .before .before .bytes162 .ensures .1) refl
-    (c .before .before .before .before .before .before .before .before .before .bytes163 .ensures .1) (c .before .before .before .before .before .before .before .before .bytes164 .ensures .1) (c .before .before .before .before .before .flag .ensures) (c .before .before .before .before .before .before .before .bytes165 .ensures .1)
+    scope-is (c .before .before .before .before .before .before .before .before .before .before .before .before .args .s) (c .before .before .copy .ensures .1) (c .before .before .before .before .before .before .before .before .before .before .bytes16 .ensures .1) (c .before .before .before .before .before .before .before .before .before .bytes162 .ensures .1) refl (c .before .before .before .before .before .before .before .before .bytes163 .ensures .1) (c .before .before .before .before .before .before .before .bytes164 .ensures .1) (c .before .before .before .before .before .flag .ensures) (c .before .before .before .before .before .before .bytes165 .ensures .1)
 
 pub write-entry-spec : {M : Type 1} → statement M
 write-entry-spec =
@@ -80,18 +75,17 @@ write-entry-spec =
     bytes16-requires-3
     bytes16-requires-4
     bytes16-requires-5
-    cast-cell
     flag-requires
-    array-read-t15
-    array-read-t18
-    array-read-t21
-    array-read-t24
-    array-read-t27
-    array-read-t30
-    array-read-t33
-    array-read-t36
-    array-read-t39
-    array-read-t42
+    array-read-t13
+    array-read-t16
+    array-read-t19
+    array-read-t22
+    array-read-t25
+    array-read-t28
+    array-read-t31
+    array-read-t34
+    array-read-t37
+    array-read-t40
     slice-aggregate-copy
     copy-requires
     same-length
