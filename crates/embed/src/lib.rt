@@ -98,12 +98,8 @@ pub extern "C" fn chart_change(
 ) -> u64
     ensures { λ r. ⌜ Called (CallPost (Call.change visit cell amount)) (now (ram .entry)) (now (log .entry)) (now (charts .entry)) r (now (ram .exit)) (now (log .exit)) (now (charts .exit)) ⌝ }
 {
-    run(
-        ram,
-        log,
-        charts,
-        Request::Change(Visit(visit), Cell(cell), amount),
-    )
+    let request = Request::Change(Visit(visit), Cell(cell), amount);
+    run(ram, log, charts, request)
 }
 
 #[no_mangle]

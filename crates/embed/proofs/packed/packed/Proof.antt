@@ -1,31 +1,23 @@
 -- `embed::packed::packed` meets its contract. Assumes nothing.
-use mathlib.Core.Path.{ap, _∙_}
+use mathlib.Core.Path.{ap₂, _∙_}
 use mir.Syntax.{w32}
-use mir.Val.{SFits}
 use mir.Facts.{toZ-ofZ}
-use Rattle.book.specs.Numbers.{bitsOf}
-use Rattle.embed.proofs.Answers.{answer-packed}
+use Rattle.book.specs.Book.{answer}
 use borrow.Author.Needs.{needs}
 use Rattle.embed.proofs.packed.packed.Statement.{statement}
 use Rattle.embed.proofs.packed.packed.Tie as tie
 
-mul-result : tie.Need-mul-result
-mul-result c = search needs
+number-of-requires : tie.Need-number-of-requires
+number-of-requires c κs = search needs
 
-bits-requires : tie.Need-bits-requires
-bits-requires c κs = search needs
+value-of-requires : tie.Need-value-of-requires
+value-of-requires c κs = search needs
 
-add-result : tie.Need-add-result
-add-result c = search needs
-
-value-fits : (s : tie.Start) → SFits w32 (s .args .value)
-value-fits s = search needs
+joined-requires : tie.Need-joined-requires
+joined-requires c κs = search needs
 
 returns : tie.Need-returns
-returns c =
-    let s = c .before in
-    let x = s .args in
-    answer-packed (x .number) (x .value) (c .bits .result) (value-fits s) (c .bits .ensures .0 ∙ ap (bitsOf 32) (toZ-ofZ (value-fits s))) (c .bits .ensures .1)
+returns c = c .joined .ensures ∙ ap₂ answer (c .before .before .number-of .ensures) (toZ-ofZ {w = w32} {z = c .before .value-of .result} (search needs) ∙ c .before .value-of .ensures)
 
 pub packed-spec : {M : Type 1} → statement M
-packed-spec = tie.close (tie.spec mul-result bits-requires add-result returns)
+packed-spec = tie.close (tie.spec number-of-requires value-of-requires joined-requires returns)

@@ -1,43 +1,43 @@
 -- `embed::run::run` meets its contract. Assumes nothing.
 use Rattle.state.specs.Contracts.{CallPost}
-use Rattle.calls_model.specs.Requests.{callOf}
+use Rattle.state.specs.Requests.{callOf}
 use Rattle.block.specs.Block.{worldIn}
 use Rattle.embed.proofs.Calls.{refused, called, wrong-log, wrong-charts, wrong-post}
 use borrow.Author.Needs.{needs}
 use Rattle.embed.proofs.run.run.Statement.{statement}
 use Rattle.embed.proofs.run.run.Tie as tie
 
-wrong-length-requires : tie.Need-wrong-length-requires
-wrong-length-requires c κs = search needs
+is-typed-requires : tie.Need-is-typed-requires
+is-typed-requires c κs = search needs
+
+packed-requires : tie.Need-packed-requires
+packed-requires c κs = search needs
 
 returns : tie.Need-returns
 returns c =
-    let x = c .before .before .before .before .before .args in
-    refused (CallPost (callOf (x .request))) (x .ram .now) (x .log .now) (x .charts .now) _ (c .before .if1 .taken) (c .wrong-length .ensures)
+    let x = c .before .before .before .before .before .before .args in
+    refused (CallPost (callOf (x .request))) (x .ram .now) (x .log .now) (x .charts .now) _ (c .before .if1 .taken) (c .packed .ensures)
 
-wrong-length-requires-2 : tie.Need-wrong-length-requires-2
-wrong-length-requires-2 c κs = search needs
+packed-requires-2 : tie.Need-packed-requires-2
+packed-requires-2 c κs = search needs
 
 returns-2 : tie.Need-returns-2
 returns-2 c =
-    let s = c .before .before .before .before .before .before in
-    let x = s .args in
+    let x = c .before .before .before .before .before .before .before .args in
     let k = callOf (x .request) in
-    let w = worldIn (x .ram .now) (x .log .now) (x .charts .now) in
     called (CallPost k) (c .before .before .if1 .left)
-    (wrong-post k (s .pre) w _ (c .wrong-length2 .ensures) (wrong-log (x .ram .now) (x .log .now) (x .charts .now) (c .before .if2 .taken)))
+    (wrong-post k (c .before .before .before .is-typed .ensures) (worldIn (x .ram .now) (x .log .now) (x .charts .now)) _ (c .packed2 .ensures)
+    (wrong-log (x .ram .now) (x .log .now) (x .charts .now) (c .before .if2 .taken)))
 
-wrong-length-requires-3 : tie.Need-wrong-length-requires-3
-wrong-length-requires-3 c κs = search needs
+packed-requires-3 : tie.Need-packed-requires-3
+packed-requires-3 c κs = search needs
 
 returns-3 : tie.Need-returns-3
 returns-3 c =
-    let s = c .before .before .before .before .before .before .before in
-    let x = s .args in
+    let x = c .before .before .before .before .before .before .before .before .args in
     let k = callOf (x .request) in
-    let w = worldIn (x .ram .now) (x .log .now) (x .charts .now) in
     called (CallPost k) (c .before .before .before .if1 .left)
-    (wrong-post k (s .pre) w _ (c .wrong-length3 .ensures)
+    (wrong-post k (c .before .before .before .before .is-typed .ensures) (worldIn (x .ram .now) (x .log .now) (x .charts .now)) _ (c .packed3 .ensures)
     (wrong-charts (x .ram .now) (x .log .now) (x .charts .now) (c .before .before .if2 .left) (c .before .if3 .taken)))
 
 decide-requires : tie.Need-decide-requires
@@ -53,19 +53,18 @@ same-length-3 : tie.Need-same-length-3
 same-length-3 c = search needs
 
 returns-4 : tie.Need-returns-4
-returns-4 c =
-    let x = c .before .before .before .before .before .before .before .before .before .before .before .before .before .before .before .before .args in
-    called (CallPost (callOf (x .request))) (c .before .before .before .before .before .before .before .before .before .before .before .before .if1 .left) (c .before .before .before .before .before .before .decide .ensures)
+returns-4 c = called (CallPost (callOf (c .before .before .before .before .before .before .before .before .before .before .before .before .before .before .before .before .before .args .request))) (c .before .before .before .before .before .before .before .before .before .before .before .before .if1 .left) (c .before .before .before .before .before .before .decide .ensures)
 
 pub run-spec : {M : Type 1} → statement M
 run-spec =
     tie.close
     (tie.spec
-    wrong-length-requires
+    is-typed-requires
+    packed-requires
     returns
-    wrong-length-requires-2
+    packed-requires-2
     returns-2
-    wrong-length-requires-3
+    packed-requires-3
     returns-3
     decide-requires
     same-length

@@ -1,0 +1,31 @@
+-- `embed::packed::joined` meets its contract. Assumes nothing.
+use mathlib.Core.Path.{ap, _∙_}
+use mir.Syntax.{w32}
+use mir.Val.{SFits}
+use mir.Facts.{toZ-ofZ}
+use Rattle.book.specs.Numbers.{bitsOf}
+use Rattle.embed.proofs.Answers.{answer-packed}
+use borrow.Author.Needs.{needs}
+use Rattle.embed.proofs.packed.joined.Statement.{statement}
+use Rattle.embed.proofs.packed.joined.Tie as tie
+
+mul-result : tie.Need-mul-result
+mul-result c = search needs
+
+bits-requires : tie.Need-bits-requires
+bits-requires c κs = search needs
+
+add-result : tie.Need-add-result
+add-result c = search needs
+
+value-fits : (s : tie.Start) → SFits w32 (s .args .value)
+value-fits s = search needs
+
+returns : tie.Need-returns
+returns c =
+    let s = c .before in
+    let x = s .args in
+    answer-packed (x .number) (x .value) (c .bits .result) (value-fits s) (c .bits .ensures .0 ∙ ap (bitsOf 32) (toZ-ofZ (value-fits s))) (c .bits .ensures .1)
+
+pub joined-spec : {M : Type 1} → statement M
+joined-spec = tie.close (tie.spec mul-result bits-requires add-result returns)
