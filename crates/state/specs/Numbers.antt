@@ -1,4 +1,4 @@
--- No number is listed for nothing in `numbers` (specs/Contracts): `CallPost` says that a call answers with no other, and here each of them is answered.
+-- Each number that `numbers` lists (specs/Contracts) is answered; `CallPost` says that a call answers with no other.
 use Prim.Native.Nat.{ℕ}
 use mathlib.Core.Bool.{Bool, true}
 use mathlib.Core.Path.{_≡_}

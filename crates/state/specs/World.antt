@@ -18,7 +18,6 @@ use Rattle.book.specs.LogBytes.{rowsBytes, logBytes}
 use Rattle.book.specs.Pages.{chartBytes, pageAfter}
 use Rattle.book.specs.Opening.{noCopy}
 use Rattle.book.specs.Logs.{Sound}
-use Rattle.tables_model.specs.declared.Scope.{Scope}
 use Rattle.tables_model.specs.declared.Tables.{Tables}
 use Rattle.tables_model.specs.declared.Scope.{Scope}
 use Rattle.tables_model.specs.Entries.{scopeOf}

@@ -20,7 +20,7 @@ same-length-3 c = search needs
 returns : tie.Need-returns
 returns c =
     let s = c .before .before .before .before .before .before .before .before .before .before .before .before .before in
-    rw (toZ-ofZ {w = w16} {z = s .args .amount} (s .fits .amount)) at (c .before .before .before .before .before .before .run .ensures)
+    rw (← toZ-ofZ {w = w16} {z = s .args .amount} (s .fits .amount)) (c .before .before .before .before .before .before .run .ensures)
 
 pub chart-change-spec : {M : Type 1} → statement M
 chart-change-spec =

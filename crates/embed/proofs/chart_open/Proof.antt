@@ -1,9 +1,9 @@
 -- `embed::chart_open` meets its contract. Assumes nothing.
-use mathlib.Core.Path.{_∙_}
+use mathlib.Core.Path.{_≡_, _∙_}
 use native.Mathlib.Omega.{arith}
+use lib.ListN.{length, length-take, length-drop}
 use Rattle.state.specs.Contracts.{OpenPost}
 use Rattle.block.specs.Block.{worldIn}
-use Rattle.block.proofs.Parts.{part-long}
 use Rattle.embed.specs.Packed.{fuseIn}
 use Rattle.embed.proofs.Calls.{refused, called, wrong-log, wrong-charts}
 use Rattle.embed.proofs.Openings.{open-refused, open-done}
@@ -79,7 +79,7 @@ returns-4 c =
     let long = e .before .before .if1 .left in
     let fuse = c .before .before .before .before .before .before .before .before .before .before .before .before .before .before .fuse-of in
     let o = c .before .before .before .before .before .before .before .before .before .before .«open» in
-    let y = o .kept .1 .1 .1 .0 ∙ part-long 1880 1024 (x .ram .now) (omega (arith, long)) in
+    let y : length (o .last .1 .1 .1 .0) ≡ 1024 = o .kept .1 .1 .1 .0 ∙ simp (length-take, length-drop) (omega (arith, long)) in
     called (OpenPost (fuseIn (x .fuse))) long
     (rw (← fuse .ensures)
     (open-done (x .ram .now) (x .log .now) (x .charts .now) long _ (o .result) (o .last .1 .0) (x .charts .now) (o .last .1 .1 .1 .0) y (fuse .result)
