@@ -1,36 +1,35 @@
-//! `bench` measures the proved store and the efficient store of `compare` in one run, and prints times as
-//! ratios: proved / other. Both are given the same calls, and must give the same answers.
+//! `bench` gives the proved store and the efficient store of `compare` the same calls, and measures them.
 //!
-//!     bench          times of calls, visits, aborts and openings
-//!     bench --ram    what each call takes of RAM: the block, and the deepest stack
+//!     bench                    times, as ratios
+//!     bench --instructions     instructions, counted by callgrind
+//!     bench --ram              the block of RAM and the deepest stack of the proved store
+//!     bench --once WORKLOAD    one workload, nothing measured: what callgrind is given
 //!
-//! No time is compared with a limit here: a machine that is busy says nothing of the store.
+//! A difference in any answer or stored byte ends the program with exit status 1.
 
-mod openings;
-mod stack;
+mod instructions;
+mod ram;
+mod run;
 mod stores;
-mod timing;
-mod visits;
+mod times;
+mod workloads;
 
 use std::process::ExitCode;
 
 fn main() -> ExitCode {
     let words: Vec<String> = std::env::args().skip(1).collect();
-    match words.iter().map(String::as_str).collect::<Vec<_>>().as_slice() {
-        [] => {
-            println!("{:<44} {:>11} {:>11} {:>7}", "", "proved", "other", "ratio");
-            visits::single_calls();
-            visits::hundred_visits();
-            visits::aborts();
-            openings::openings();
-            ExitCode::SUCCESS
-        }
-        ["--ram"] => {
-            stack::report();
-            ExitCode::SUCCESS
-        }
-        _ => {
-            eprintln!("usage: bench [--ram]");
+    let words: Vec<&str> = words.iter().map(String::as_str).collect();
+    let result = match words[..] {
+        [] => times::report(),
+        ["--instructions"] => instructions::report(),
+        ["--ram"] => ram::report(),
+        ["--once", name] => instructions::once(name),
+        _ => Err("usage: bench [--instructions | --ram | --once WORKLOAD]".to_string()),
+    };
+    match result {
+        Ok(()) => ExitCode::SUCCESS,
+        Err(reason) => {
+            eprintln!("bench: {reason}");
             ExitCode::FAILURE
         }
     }

@@ -2,40 +2,41 @@
 
 use compare::fast::{self, Fuse, Lent, Ram};
 use compare::proved::Proved;
-use compare::store::{Answer, Scope, RIGHT};
+use compare::store::{Answer, Scope, CELLS, RIGHT};
+
+/// A call of a store.
+#[derive(Clone, Copy, Debug)]
+pub enum Call {
+    /// A format with zeros.
+    Format,
+    /// An opening with no fuse.
+    Open,
+    Begin,
+    /// Visit, cell and grams.
+    Change(u16, u8, i16),
+    /// Giver, receiver and cell.
+    HandOver(u16, u16, u8),
+    Commit(u16),
+    Abort(u16),
+    Force,
+    Flush(u8),
+    Read(u8),
+}
+
+const ZEROS: [i32; CELLS] = [0; CELLS];
 
 /// A chart store with its buffers.
 pub trait Charts {
     fn new() -> Self;
-    fn format(&mut self, cells: &[i32]) -> Answer;
-    fn open(&mut self) -> Answer;
-    fn begin(&mut self) -> Answer;
-    fn change(&mut self, visit: u16, cell: u8, amount: i16) -> Answer;
-    fn hand_over(&mut self, giver: u16, receiver: u16, cell: u8) -> Answer;
-    fn commit(&mut self, visit: u16) -> Answer;
-    fn abort(&mut self, visit: u16) -> Answer;
-    fn force(&mut self) -> Answer;
-    fn flush(&mut self, page: u8) -> Answer;
-    fn read(&mut self, cell: u8) -> Answer;
-    fn log(&mut self) -> &mut [u8];
-}
-
-/// A store formatted at zeros and opened.
-pub fn opened<S: Charts>() -> S {
-    let mut store = S::new();
-    done(store.format(&[0; 224]));
-    done(store.open());
-    store
-}
-
-/// The value of an answer that must not be a refusal.
-pub fn done(answer: Answer) -> i64 {
-    assert_eq!(answer.number, 0, "refused");
-    answer.value
+    fn make(&mut self, call: Call) -> Answer;
+    /// The same as `make`, as a function with a name by which callgrind finds it.
+    fn make_counted(&mut self, call: Call) -> Answer;
+    fn log(&self) -> &[u8];
+    fn charts(&self) -> &[u8];
 }
 
 /// The efficient store of `compare`.
-pub struct Other {
+pub struct Efficient {
     ram: Ram,
     log: Vec<u8>,
     charts: Vec<u8>,
@@ -43,16 +44,9 @@ pub struct Other {
     scopes: Vec<Scope>,
 }
 
-impl Other {
-    fn lent(&mut self) -> (&mut Ram, Lent<'_>) {
-        let Other { ram, log, charts, copy, scopes } = self;
-        (ram, Lent { log, charts, copy, scopes })
-    }
-}
-
-impl Charts for Other {
-    fn new() -> Other {
-        Other {
+impl Charts for Efficient {
+    fn new() -> Efficient {
+        Efficient {
             ram: Ram::CLOSED,
             log: vec![0; RIGHT.log],
             charts: vec![0; RIGHT.charts],
@@ -61,58 +55,38 @@ impl Charts for Other {
         }
     }
 
-    fn format(&mut self, cells: &[i32]) -> Answer {
-        let (ram, mut lent) = self.lent();
-        fast::format(ram, &mut lent, cells)
+    #[inline(always)]
+    fn make(&mut self, call: Call) -> Answer {
+        let Efficient { ram, log, charts, copy, scopes } = self;
+        let mut lent = Lent { log, charts, copy, scopes };
+        match call {
+            Call::Format => fast::format(ram, &mut lent, &ZEROS),
+            Call::Open => fast::open(ram, &mut lent, Fuse::Unlimited),
+            Call::Begin => fast::begin(ram, &mut lent),
+            Call::Change(visit, cell, amount) => fast::change(ram, &mut lent, visit, cell, amount),
+            Call::HandOver(giver, receiver, cell) => {
+                fast::hand_over(ram, &mut lent, giver, receiver, cell)
+            }
+            Call::Commit(visit) => fast::commit(ram, &mut lent, visit),
+            Call::Abort(visit) => fast::abort(ram, &mut lent, visit),
+            Call::Force => fast::force(ram, &mut lent),
+            Call::Flush(page) => fast::flush_page(ram, &mut lent, page),
+            Call::Read(cell) => fast::read(ram, &lent, cell),
+        }
     }
 
-    fn open(&mut self) -> Answer {
-        let (ram, mut lent) = self.lent();
-        fast::open(ram, &mut lent, Fuse::Unlimited)
+    #[inline(never)]
+    #[export_name = "counted_efficient"]
+    fn make_counted(&mut self, call: Call) -> Answer {
+        self.make(call)
     }
 
-    fn begin(&mut self) -> Answer {
-        let (ram, mut lent) = self.lent();
-        fast::begin(ram, &mut lent)
+    fn log(&self) -> &[u8] {
+        &self.log
     }
 
-    fn change(&mut self, visit: u16, cell: u8, amount: i16) -> Answer {
-        let (ram, mut lent) = self.lent();
-        fast::change(ram, &mut lent, visit, cell, amount)
-    }
-
-    fn hand_over(&mut self, giver: u16, receiver: u16, cell: u8) -> Answer {
-        let (ram, mut lent) = self.lent();
-        fast::hand_over(ram, &mut lent, giver, receiver, cell)
-    }
-
-    fn commit(&mut self, visit: u16) -> Answer {
-        let (ram, mut lent) = self.lent();
-        fast::commit(ram, &mut lent, visit)
-    }
-
-    fn abort(&mut self, visit: u16) -> Answer {
-        let (ram, mut lent) = self.lent();
-        fast::abort(ram, &mut lent, visit)
-    }
-
-    fn force(&mut self) -> Answer {
-        let (ram, mut lent) = self.lent();
-        fast::force(ram, &mut lent)
-    }
-
-    fn flush(&mut self, page: u8) -> Answer {
-        let (ram, mut lent) = self.lent();
-        fast::flush_page(ram, &mut lent, page)
-    }
-
-    fn read(&mut self, cell: u8) -> Answer {
-        let (ram, lent) = self.lent();
-        fast::read(ram, &lent, cell)
-    }
-
-    fn log(&mut self) -> &mut [u8] {
-        &mut self.log
+    fn charts(&self) -> &[u8] {
+        &self.charts
     }
 }
 
@@ -121,47 +95,33 @@ impl Charts for Proved {
         Proved::new()
     }
 
-    fn format(&mut self, cells: &[i32]) -> Answer {
-        Proved::format(self, cells)
+    #[inline(always)]
+    fn make(&mut self, call: Call) -> Answer {
+        match call {
+            Call::Format => self.format(&ZEROS),
+            Call::Open => self.open(None),
+            Call::Begin => self.begin(),
+            Call::Change(visit, cell, amount) => self.change(visit, cell, amount),
+            Call::HandOver(giver, receiver, cell) => self.hand_over(giver, receiver, cell),
+            Call::Commit(visit) => self.commit(visit),
+            Call::Abort(visit) => self.abort(visit),
+            Call::Force => self.force(),
+            Call::Flush(page) => self.flush(page),
+            Call::Read(cell) => self.read(cell),
+        }
     }
 
-    fn open(&mut self) -> Answer {
-        Proved::open(self, None)
+    #[inline(never)]
+    #[export_name = "counted_proved"]
+    fn make_counted(&mut self, call: Call) -> Answer {
+        self.make(call)
     }
 
-    fn begin(&mut self) -> Answer {
-        Proved::begin(self)
+    fn log(&self) -> &[u8] {
+        &self.log
     }
 
-    fn change(&mut self, visit: u16, cell: u8, amount: i16) -> Answer {
-        Proved::change(self, visit, cell, amount)
-    }
-
-    fn hand_over(&mut self, giver: u16, receiver: u16, cell: u8) -> Answer {
-        Proved::hand_over(self, giver, receiver, cell)
-    }
-
-    fn commit(&mut self, visit: u16) -> Answer {
-        Proved::commit(self, visit)
-    }
-
-    fn abort(&mut self, visit: u16) -> Answer {
-        Proved::abort(self, visit)
-    }
-
-    fn force(&mut self) -> Answer {
-        Proved::force(self)
-    }
-
-    fn flush(&mut self, page: u8) -> Answer {
-        Proved::flush(self, page)
-    }
-
-    fn read(&mut self, cell: u8) -> Answer {
-        Proved::read(self, cell)
-    }
-
-    fn log(&mut self) -> &mut [u8] {
-        &mut self.log
+    fn charts(&self) -> &[u8] {
+        &self.charts
     }
 }

@@ -1,0 +1,75 @@
+//! Instructions of the same calls by both stores, counted by callgrind.
+//!
+//! For each workload and store callgrind runs this program with `--once`. It collects in the function that
+//! makes the store's measured calls and in all that this calls, and writes what each function took.
+
+use crate::run::{make_all, run_both};
+use crate::workloads::{Script, WORKLOADS};
+use std::process::Command;
+use std::thread;
+
+/// The functions that make the measured calls, of the proved store and of the efficient one.
+const MAKERS: [&str; 2] = ["counted_proved", "counted_efficient"];
+/// The functions that lend the buffers to the proved store.
+const LENDERS: &str = "compare::proved::Proved";
+
+/// Prints for each workload the ratio of the counts, its name, and both counts for one call.
+pub fn report() -> Result<(), String> {
+    for (name, workload) in WORKLOADS {
+        let calls = Script::of(workload).measured() as f64;
+        let [proved, efficient] = MAKERS.map(|maker| count(name, maker));
+        let (proved, efficient) = (proved? as f64 / calls, efficient? as f64 / calls);
+        let ratio = proved / efficient;
+        println!("{ratio:<7.2}{name:<42}{proved:>11.0} /{efficient:>11.0}");
+    }
+    Ok(())
+}
+
+/// Runs one workload by both stores. It does so in a thread, whose stack lies at the same addresses
+/// whatever the environment is: what a copy of bytes takes depends on where they lie.
+pub fn once(name: &str) -> Result<(), String> {
+    let found = WORKLOADS.into_iter().find(|workload| workload.0 == name);
+    let (name, workload) = found.ok_or_else(|| format!("no workload has the name {name}"))?;
+    let run = move || run_both(name, &Script::of(workload), make_all, make_all);
+    thread::spawn(run).join().map_err(|_| format!("{name}: a call panicked"))?
+}
+
+/// The instructions of those calls of the workload that the function makes.
+fn count(name: &str, maker: &str) -> Result<u64, String> {
+    let program = std::env::current_exe().map_err(|error| error.to_string())?;
+    let output = Command::new("valgrind")
+        .args(["--quiet", "--tool=callgrind", "--callgrind-out-file=/dev/stdout"])
+        .args(["--compress-strings=no", "--compress-pos=no"])
+        .arg(format!("--toggle-collect={maker}"))
+        .arg(program)
+        .args(["--once", name])
+        .output()
+        .map_err(|error| {
+            format!("valgrind is missing, or does not run; it counts the instructions: {error}")
+        })?;
+    let count = instructions(&String::from_utf8_lossy(&output.stdout));
+    if !output.status.success() || count == 0 {
+        let reason = String::from_utf8_lossy(&output.stderr);
+        return Err(format!("{name}: nothing was counted: {}", reason.trim_end()));
+    }
+    Ok(count)
+}
+
+/// Adds up what callgrind wrote of each function, but for those that make the calls.
+fn instructions(profile: &str) -> u64 {
+    let mut lines = profile.lines();
+    let mut of_store = false;
+    let mut sum = 0;
+    while let Some(line) = lines.next() {
+        if let Some(function) = line.strip_prefix("fn=") {
+            of_store = !MAKERS.contains(&function) && !function.contains(LENDERS);
+        } else if line.starts_with("calls=") {
+            // The next line repeats what a called function took.
+            lines.next();
+        } else if of_store && line.starts_with(|first: char| first.is_ascii_digit()) {
+            // A line of the source, or 0, and what it took.
+            sum += line.split(' ').nth(1).map_or(0, |taken| taken.parse().unwrap_or(0));
+        }
+    }
+    sum
+}

@@ -1,0 +1,73 @@
+//! A workload run by both stores, and the comparison of what they did.
+
+use crate::stores::{Call, Charts, Efficient};
+use crate::workloads::Script;
+use compare::proved::Proved;
+use compare::store::{Answer, CELLS};
+
+/// Runs the workload by both stores. The two functions make the calls of a measured batch and add their
+/// answers. Any difference between the stores is an error, and so is a refusal that the workload does not
+/// ask for.
+pub fn run_both(
+    name: &str,
+    script: &Script,
+    measure_proved: impl FnMut(&mut Proved, &[Call], &mut Vec<Answer>),
+    measure_efficient: impl FnMut(&mut Efficient, &[Call], &mut Vec<Answer>),
+) -> Result<(), String> {
+    let proved = run(script, measure_proved);
+    let efficient = run(script, measure_efficient);
+    compare(script, &proved, &efficient).map_err(|reason| format!("{name}: {reason}"))
+}
+
+/// Makes the calls of a batch.
+pub fn make_all<S: Charts>(store: &mut S, calls: &[Call], answers: &mut Vec<Answer>) {
+    answers.extend(calls.iter().map(|call| store.make_counted(*call)));
+}
+
+/// What a store answered, with every cell read at the end, and what it has stored.
+struct Outcome {
+    answers: Vec<Answer>,
+    log: Vec<u8>,
+    charts: Vec<u8>,
+}
+
+fn run<S: Charts>(
+    script: &Script,
+    mut measure: impl FnMut(&mut S, &[Call], &mut Vec<Answer>),
+) -> Outcome {
+    let mut store = S::new();
+    // Written to before, so that no measured call waits for the system to give memory.
+    let mut answers = vec![Answer { number: 1, value: 1 }; script.calls() + CELLS];
+    answers.clear();
+    for batch in &script.batches {
+        if batch.measured {
+            measure(&mut store, &batch.calls, &mut answers);
+        } else {
+            answers.extend(batch.calls.iter().map(|call| store.make(*call)));
+        }
+    }
+    answers.extend((0..CELLS).map(|cell| store.make(Call::Read(cell as u8))));
+    Outcome { answers, log: store.log().to_vec(), charts: store.charts().to_vec() }
+}
+
+fn compare(script: &Script, proved: &Outcome, efficient: &Outcome) -> Result<(), String> {
+    let mut answers = proved.answers.iter().zip(&efficient.answers);
+    for batch in &script.batches {
+        let number = if batch.measured { script.number } else { 0 };
+        for (call, (proved, efficient)) in batch.calls.iter().zip(&mut answers) {
+            if proved != efficient {
+                return Err(format!("{call:?}: proved {proved:?}, efficient {efficient:?}"));
+            }
+            if proved.number != number {
+                return Err(format!("{call:?}: both answer {}, not {number}", proved.number));
+            }
+        }
+    }
+    if !answers.all(|(proved, efficient)| proved == efficient) {
+        return Err("the cells differ at the end".to_string());
+    }
+    if proved.log != efficient.log || proved.charts != efficient.charts {
+        return Err("the stored bytes differ at the end".to_string());
+    }
+    Ok(())
+}
