@@ -97,7 +97,7 @@ def text(cells):
         'x': 'cells' if cells else 'x',
         'x-type': '&[i32]' if cells else 'X',
         'xp': 'P' if cells else 'X P',
-        'given': '(P : List ℤ → World → Answered → Type 0)' if cells else '(X : Plain) (P : Of X → World → Answered → Type 0)',
+        'given': '(P : List ℤ → World → Returned → Type 0)' if cells else '(X : Plain) (P : Of X → World → Returned → Type 0)',
         'locals': local.mir(),
         'body': body(statements),
         'x-passed': ('(now ({}))' if cells else '({})').format(nth('a', 5)),

@@ -267,7 +267,7 @@ use denote.Triple.Walked.{says, Stays, stay-none, stay-dropped, gave-slice, walk
 use denote.Exit.{yes}
 use Rattle.tables_model.specs.declared.Scope.{Scope}
 use Rattle.state.specs.World.{World, world}
-use Rattle.state.specs.Contracts.{Answered, returned}
+use Rattle.state.specs.Contracts.{Returned, returned}
 use Rattle.cores.specs.Lent.{ByValue}
 use Rattle.store.specs.Table.{loaded, stored}
 use Rattle.cores.proofs.outs.out_of as out-of

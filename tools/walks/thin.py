@@ -117,7 +117,7 @@ def text(cells):
         'to-which': 'to which cells are lent' if cells else 'whose last parameter is plain data, of any type X',
         'x': 'cells' if cells else 'x',
         'x-type': '&[i32]' if cells else 'X',
-        'given': '(P : List ℤ → World → Answered → Type 0)' if cells else '(X : Plain) (P : Of X → World → Answered → Type 0)',
+        'given': '(P : List ℤ → World → Returned → Type 0)' if cells else '(X : Plain) (P : Of X → World → Returned → Type 0)',
         'locals': local.mir(),
         'body': body(statements),
         'x-passed': now.format(nth('a', 5)),

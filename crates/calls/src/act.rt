@@ -11,7 +11,7 @@ ghost use Rattle.rows.specs.Meaning.{meant};
 ghost use Rattle.tables_model.specs.declared.Tables.{Tables as TheTables};
 ghost use Rattle.tables_model.specs.Rows.{Steps, index, stepBy};
 ghost use Rattle.undo.specs.Writing.{ram, Fits, written};
-ghost use Rattle.state.specs.Answers.{numberAndValue, done};
+ghost use Rattle.state.specs.Answers.{row, numberAndValue, done, caseOf, doneCase};
 ghost use Rattle.state.specs.Requests.{callOf};
 ghost use Rattle.calls_model.specs.Acts.{core, acted, Accepts, valueFrom};
 use charts::charts::read_cell;
@@ -236,7 +236,7 @@ pub fn act(
 // The answer of a call that returns its row's number.
 fn row_answer(rows: usize) -> Answer
     requires { ⌜ rows ≤ 4096 ⌝ }
-    ensures { λ r. ⌜ numberAndValue r ≡ done (pos rows) ⌝ }
+    ensures { λ r. ⌜ (numberAndValue r ≡ done (pos rows)) × (caseOf r ≡ row) ⌝ }
 {
     Answer::Row(Lsn(rows as u16))
 }
@@ -244,7 +244,7 @@ fn row_answer(rows: usize) -> Answer
 // The answer of an accepted request, by the visits begun before it, the rows after it, and the copy.
 pub fn answer_of(begun: u16, rows: usize, copy: &[u8], request: Request) -> Answer
     requires { ⌜ (callOf request ≡ Call.begin → begun < 65535) × (rows ≤ 4096) × (length (now copy) ≡ 1024) ⌝ }
-    ensures { λ r. ⌜ numberAndValue r ≡ done (valueFrom begun rows (now (copy .entry)) (returns (callOf request))) ⌝ }
+    ensures { λ r. ⌜ (numberAndValue r ≡ done (valueFrom begun rows (now (copy .entry)) (returns (callOf request)))) × (caseOf r ≡ doneCase (returns (callOf request))) ⌝ }
 {
     match request {
         Request::Begin => Answer::Visit(Visit(begun + 1)),

@@ -6,7 +6,8 @@ ghost use lib.IntN.{pos};
 ghost use lib.ListN.{length};
 ghost use Rattle.book.specs.Limits.{chartsLength};
 ghost use Rattle.tables_model.specs.Entries.{flatLength, entries};
-ghost use Rattle.state.specs.Answers.{numberAndValue, refusedBy};
+ghost use Rattle.book.specs.Calls.{returns};
+ghost use Rattle.state.specs.Answers.{refusal, numberAndValue, refusedBy, caseOf, doneCase, HasCase};
 ghost use Rattle.state.specs.Contracts.{answered};
 ghost use Rattle.state.specs.Requests.{callOf};
 ghost use Rattle.state.specs.World.{cleared};
@@ -62,7 +63,8 @@ pub fn check(c: Control, t: Tables, flat: &[u16], request: Request) -> Answer
 // The power failed: RAM is cleared.
 fn cut_off(copy: &mut [u8], tail: &mut [u8], flat: &mut [u16]) -> Done
     requires { ⌜ (length (now copy) ≡ chartsLength) × (length (now tail) ≡ 1024) × (length (now flat) ≡ flatLength) ⌝ }
-    ensures { λ r. ⌜ ((log charts : List ℕ) → doneOf r log charts (now (copy .exit)) (now (tail .exit)) (now (flat .exit)) ≡ answered 5 (pos 0) (cleared log charts)) ⌝ }
+    ensures { λ r. ⌜ ((log charts : List ℕ) → doneOf r log charts (now (copy .exit)) (now (tail .exit)) (now (flat .exit)) ≡ answered 5 (pos 0) (cleared log charts))
+        × (caseOf (r .answer) ≡ refusal) ⌝ }
 {
     clear(copy);
     clear(tail);
@@ -93,8 +95,9 @@ pub fn accept(
     request: Request,
 ) -> Done
     requires { ⌜ Accepts c t (length (now log)) (length (now copy)) (length (now tail)) (now flat) (callOf request) × (length (now charts) ≡ chartsLength) ⌝ }
-    ensures { λ r. ⌜ doneOf r (now (log .exit)) (now (charts .exit)) (now (copy .exit)) (now (tail .exit)) (now (flat .exit))
-        ≡ accepted (core c t (now (log .entry)) (now (charts .entry)) (now (copy .entry)) (now (tail .entry)) (now (flat .entry))) (callOf request) ⌝ }
+    ensures { λ r. ⌜ (doneOf r (now (log .exit)) (now (charts .exit)) (now (copy .exit)) (now (tail .exit)) (now (flat .exit))
+        ≡ accepted (core c t (now (log .entry)) (now (charts .entry)) (now (copy .entry)) (now (tail .entry)) (now (flat .entry))) (callOf request))
+        × HasCase (doneCase (returns (callOf request))) (r .answer) ⌝ }
 {
     let a = act(c, t, log, charts, copy, tail, flat, request);
     let d = a.control;

@@ -15,8 +15,10 @@ use Rattle.tables_model.specs.declared.Scope.{Scope}
 use Rattle.state.specs.declared.answers.Result.{Result}
 use Rattle.state.specs.declared.ram.Fuse.{Fuse}
 use Rattle.state.specs.declared.ram.State.{State}
-use Rattle.state.specs.World.{World, world, rightLengths, allowance}
-use Rattle.state.specs.Contracts.{Answered, answered, returned, formats, FormatPost, OpenPost}
+use Rattle.state.specs.World.{World, world, rightLengths}
+use Rattle.state.specs.Answers.{nothing, written, HasCase}
+use Rattle.state.specs.Contracts.{Returned, Answered, answered, returned, answeredBy, formats}
+use Rattle.state.specs.Functions.{Formats, Opens}
 use Rattle.recovery_model.specs.Answering.{tableAfter}
 use Rattle.recovery_model.specs.Openings.{opensBy}
 use Rattle.recovery_model.proofs.Post.{opens-by}
@@ -39,25 +41,29 @@ formats-apart values w ne = rw (wrong-table w ne)
 module _ (s : State) (log charts copy : List ℕ) (n : ℕ) (t : List Scope) (long : length t ≡ scopeLimit) (r : Result) (clears : Bool) (log′ charts′ copy′ : List ℕ) where
   -- Where a call on a table of another length than 64 changes nothing, what it leaves of any table is what its core keeps.
   by-table : (makes : World → Answered) → ((w : World) → length (w .scopes) ≢ scopeLimit → makes w ≡ answered 1 (pos 0) w)
-      → ((ys : List Scope) → length ys ≡ n → returned r log′ charts′ copy′ (tableAfter clears ys) ≡ makes (world s log charts copy ys))
-      → ByValue (λ w x. x ≡ makes w) (world s log charts copy) n t (returned r log′ charts′ copy′) (tableAfter clears t)
+      → ((ys : List Scope) → length ys ≡ n → answeredBy (returned r log′ charts′ copy′ (tableAfter clears ys)) ≡ makes (world s log charts copy ys))
+      → ByValue (λ w x. answeredBy x ≡ makes w) (world s log charts copy) n t (returned r log′ charts′ copy′) (tableAfter clears t)
   by-table makes apart e = (λ h. e t (long ∙ sym h), λ ne ys l. stays ne ys l ∙ e ys l)
     where
       -- the table is as it was
-      stays : n ≢ scopeLimit → (ys : List Scope) → length ys ≡ n → returned r log′ charts′ copy′ ys ≡ returned r log′ charts′ copy′ (tableAfter clears ys)
+      stays : n ≢ scopeLimit → (ys : List Scope) → length ys ≡ n
+          → answeredBy (returned r log′ charts′ copy′ ys) ≡ answeredBy (returned r log′ charts′ copy′ (tableAfter clears ys))
       stays ne ys l =
-          ap (returned r log′ charts′ copy′)
+          ap (λ (xs : List Scope). answeredBy (returned r log′ charts′ copy′ xs))
           (sym (ap (λ (x : Answered). x .world .scopes) (e ys l ∙ apart (world s log charts copy ys) (λ h. ne (sym l ∙ h)))))
 
   pub opening-kept : (f : Fuse) → AreBytes charts
-      → ((ys : List Scope) → length ys ≡ n → returned r log′ charts′ copy′ (tableAfter clears ys) ≡ opensBy f (world s log charts copy ys))
-      → ByValue (OpenPost (allowance f)) (world s log charts copy) n t (returned r log′ charts′ copy′) (tableAfter clears t)
-  opening-kept f bytes e =
+      → ((ys : List Scope) → length ys ≡ n → answeredBy (returned r log′ charts′ copy′ (tableAfter clears ys)) ≡ opensBy f (world s log charts copy ys))
+      → HasCase written (r .answer) → ByValue (Opens f) (world s log charts copy) n t (returned r log′ charts′ copy′) (tableAfter clears t)
+  opening-kept f bytes e case =
       let k = by-table (opensBy f) (opens-apart f) e in
-      (λ h. record { is = k .0 h ∙ opens-by f (world s log charts copy t) bytes }, λ ne ys l. record { is = k .1 ne ys l ∙ opens-by f (world s log charts copy ys) bytes })
+      (
+        λ h. record { post = record { is = k .0 h ∙ opens-by f (world s log charts copy t) bytes }; case = case },
+        λ ne ys l. record { post = record { is = k .1 ne ys l ∙ opens-by f (world s log charts copy ys) bytes }; case = case },
+      )
 
-  pub format-kept : (values : List ℤ) → ((ys : List Scope) → length ys ≡ n → returned r log′ charts′ copy′ (tableAfter clears ys) ≡ formats values (world s log charts copy ys))
-      → ByValue (FormatPost values) (world s log charts copy) n t (returned r log′ charts′ copy′) (tableAfter clears t)
-  format-kept values e =
+  pub format-kept : (values : List ℤ) → ((ys : List Scope) → length ys ≡ n → answeredBy (returned r log′ charts′ copy′ (tableAfter clears ys)) ≡ formats values (world s log charts copy ys))
+      → HasCase nothing (r .answer) → ByValue (Formats values) (world s log charts copy) n t (returned r log′ charts′ copy′) (tableAfter clears t)
+  format-kept values e case =
       let k = by-table (formats values) (formats-apart values) e in
-      (λ h. record { is = k .0 h }, λ ne ys l. record { is = k .1 ne ys l })
+      (λ h. record { post = record { is = k .0 h }; case = case }, λ ne ys l. record { post = record { is = k .1 ne ys l }; case = case })

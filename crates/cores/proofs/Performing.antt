@@ -9,13 +9,17 @@ use lib.IntN.{pos}
 use lib.Dec.{eqb}
 use borrow.Author.Tests.{eqb-true, eq-eqb, ne-eqb}
 use Rattle.book.specs.Limits.{scopeLimit, logLength, chartsLength}
-use Rattle.book.specs.Calls.{Call, Typed}
+use Rattle.book.specs.Calls.{Call, Typed, returns}
 use Rattle.book.proofs.Lists.{and-l, and-r}
 use Rattle.tables_model.specs.declared.Scope.{Scope}
 use Rattle.state.specs.declared.answers.Result.{Result}
 use Rattle.state.specs.declared.ram.State.{State}
+use Rattle.state.specs.declared.requests.Request.{Request}
+use Rattle.state.specs.Answers.{doneCase, HasCase}
+use Rattle.state.specs.Requests.{callOf}
 use Rattle.state.specs.World.{World, world}
-use Rattle.state.specs.Contracts.{Answered, answered, returned, CallPost}
+use Rattle.state.specs.Contracts.{Answered, answered, returned, answeredBy, CallPost}
+use Rattle.state.specs.Functions.{Calls}
 use Rattle.calls_model.specs.Perform.{numberOf, performed, Lent}
 use Rattle.calls_model.proofs.AnyWorld.{wrong-lengths}
 use Rattle.calls_model.proofs.Post.{performed-post}
@@ -58,21 +62,26 @@ kept-lengths k t w ne =
     let others : Bool = eqb (length (w .log)) logLength && eqb (length (w .charts)) chartsLength && eqb (length (w .copy)) chartsLength in
     subst (CallPost k w) (wrong-lengths w k (rw (ne-eqb (length (w .scopes)) scopeLimit ne) (and-false others))) (performed-post w k t)
 
-module _ (s : State) (log charts copy : List ℕ) (n : ℕ) (t : List Scope) (k : Call) (typed : Typed k)
-    (r : Result) (log′ charts′ copy′ : List ℕ) (t′ : List Scope) (e : returned r log′ charts′ copy′ t′ ≡ performedAt n (world s log charts copy t) k) where
+module _ (s : State) (log charts copy : List ℕ) (n : ℕ) (t : List Scope) (request : Request) (typed : Typed (callOf request))
+    (r : Result) (log′ charts′ copy′ : List ℕ) (t′ : List Scope)
+    (e : answeredBy (returned r log′ charts′ copy′ t′) ≡ performedAt n (world s log charts copy t) (callOf request))
+    (case : HasCase (doneCase (returns (callOf request))) (r .answer)) where
+  abbrev k : Call
+  k = callOf request
+
   -- another number of entries than 64: refused by 1, and nothing changes
-  kept-apart : n ≢ scopeLimit → (ys : List Scope) → length ys ≡ n → CallPost k (world s log charts copy ys) (returned r log′ charts′ copy′ ys)
+  kept-apart : n ≢ scopeLimit → (ys : List Scope) → length ys ≡ n → CallPost k (world s log charts copy ys) (answeredBy (returned r log′ charts′ copy′ ys))
   kept-apart ne ys l =
-      let same : returned r log′ charts′ copy′ t′ ≡ answered 1 (pos 0) (world s log charts copy t) = rw (ne-eqb n scopeLimit ne) at e in
+      let same : answeredBy (returned r log′ charts′ copy′ t′) ≡ answered 1 (pos 0) (world s log charts copy t) = rw (ne-eqb n scopeLimit ne) at e in
       subst (λ (x : Answered). CallPost k (world s log charts copy ys)
       (record { answer = x .answer; world = world (x .world .state) (x .world .log) (x .world .charts) (x .world .copy) ys }))
       (sym same) (kept-lengths k typed (world s log charts copy ys) (λ h. ne (sym l ∙ h)))
 
   -- 64 entries: as performed
-  kept-whole : n ≡ scopeLimit → CallPost k (world s log charts copy t) (returned r log′ charts′ copy′ t′)
+  kept-whole : n ≡ scopeLimit → CallPost k (world s log charts copy t) (answeredBy (returned r log′ charts′ copy′ t′))
   kept-whole h =
-      let same : returned r log′ charts′ copy′ t′ ≡ performed (world s log charts copy t) k = rw (eq-eqb n scopeLimit h) at e in
+      let same : answeredBy (returned r log′ charts′ copy′ t′) ≡ performed (world s log charts copy t) k = rw (eq-eqb n scopeLimit h) at e in
       subst (CallPost k (world s log charts copy t)) (sym same) (performed-post (world s log charts copy t) k typed)
 
-  pub by-value : ByValue (CallPost k) (world s log charts copy) n t (returned r log′ charts′ copy′) t′
-  by-value = (kept-whole, kept-apart)
+  pub by-value : ByValue (Calls request) (world s log charts copy) n t (returned r log′ charts′ copy′) t′
+  by-value = (λ h. record { post = kept-whole h; case = case }, λ ne ys l. record { post = kept-apart ne ys l; case = case })

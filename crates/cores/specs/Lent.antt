@@ -9,7 +9,7 @@ use Rattle.book.specs.Limits.{scopeLimit}
 use Rattle.book.specs.Scopes.{unused}
 use Rattle.tables_model.specs.declared.Scope.{Scope}
 use Rattle.state.specs.World.{World}
-use Rattle.state.specs.Contracts.{Answered}
+use Rattle.state.specs.Contracts.{Returned}
 
 -- an entry that is not in use
 abbrev pub zeroScope : Scope
@@ -20,6 +20,6 @@ blanks = replicate scopeLimit zeroScope
 
 -- The promise P of a call as its core keeps it. The core has the number n of entries that are lent, and the table by value, of 64 entries.
 -- At 64 entries the two tables are the lent one before and after; at any other number the lent table stays.
-abbrev pub ByValue : (World → Answered → Type 0) → (List Scope → World) → ℕ → List Scope → (List Scope → Answered) → List Scope → Type 0
+abbrev pub ByValue : (World → Returned → Type 0) → (List Scope → World) → ℕ → List Scope → (List Scope → Returned) → List Scope → Type 0
 ByValue P given n t leaves t′ =
     (n ≡ scopeLimit → P (given t) (leaves t′)) × (n ≢ scopeLimit → (ys : List Scope) → length ys ≡ n → P (given ys) (leaves ys))

@@ -1,7 +1,10 @@
 // The calls of an open store: every check in document 01's order, the lengths first, on a flat copy of the table; then the call.
 ghost use mathlib.Core.Path.{_≡_};
 ghost use lib.ListN.{length};
-ghost use Rattle.state.specs.Contracts.{returned, CallPost};
+ghost use Rattle.book.specs.Calls.{returns};
+ghost use Rattle.state.specs.Answers.{doneCase, HasCase};
+ghost use Rattle.state.specs.Contracts.{returned, answeredBy};
+ghost use Rattle.state.specs.Functions.{Calls};
 ghost use Rattle.state.specs.Requests.{callOf};
 ghost use Rattle.state.specs.World.{world};
 ghost use Rattle.calls_model.specs.Perform.{controlIn, performed, stateAfter, Lent};
@@ -76,8 +79,9 @@ fn decide(
     request: Request,
 ) -> Out
     requires { ⌜ Lent (length (now log)) (length (now charts)) (length (now copy)) ⌝ }
-    ensures { λ r. ⌜ returned (r .result) (now (log .exit)) (now (charts .exit)) (now (copy .exit)) (r .table)
-        ≡ performed (world state (now (log .entry)) (now (charts .entry)) (now (copy .entry)) table) (callOf request) ⌝ }
+    ensures { λ r. ⌜ (answeredBy (returned (r .result) (now (log .exit)) (now (charts .exit)) (now (copy .exit)) (r .table))
+        ≡ performed (world state (now (log .entry)) (now (charts .entry)) (now (copy .entry)) table) (callOf request))
+        × HasCase (doneCase (returns (callOf request))) (r .result .answer) ⌝ }
 {
     let mut flat = [0u16; 448];
     flat_into(table, &mut flat);
@@ -111,7 +115,7 @@ pub fn call_core(
     t: [Scope; 64],
     request: Request,
 ) -> Out
-    ensures { λ r. ⌜ ByValue (CallPost (callOf request)) (world state (now (log .entry)) (now (charts .entry)) (now (copy .entry))) n t
+    ensures { λ r. ⌜ ByValue (Calls request) (world state (now (log .entry)) (now (charts .entry)) (now (copy .entry))) n t
         (returned (r .result) (now (log .exit)) (now (charts .exit)) (now (copy .exit))) (r .table) ⌝ }
 {
     is_typed(request);

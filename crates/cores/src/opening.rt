@@ -1,7 +1,8 @@
 // Format and open: they have no use for the scope table but its length, and leave it or clear it.
 ghost use mathlib.Core.Path.{_≡_};
-ghost use Rattle.state.specs.Contracts.{returned, FormatPost, OpenPost};
-ghost use Rattle.state.specs.World.{world, allowance};
+ghost use Rattle.state.specs.Contracts.{returned};
+ghost use Rattle.state.specs.Functions.{Formats, Opens};
+ghost use Rattle.state.specs.World.{world};
 ghost use Rattle.recovery_model.specs.Answering.{tableAfter};
 ghost use Rattle.cores.specs.Lent.{ByValue};
 use crate::entries::blank;
@@ -46,7 +47,7 @@ pub fn format_core(
     t: [Scope; 64],
     cells: &[i32],
 ) -> Out
-    ensures { λ r. ⌜ ByValue (FormatPost (now (cells .entry))) (world state (now (log .entry)) (now (charts .entry)) (now (copy .entry))) n t
+    ensures { λ r. ⌜ ByValue (Formats (now (cells .entry))) (world state (now (log .entry)) (now (charts .entry)) (now (copy .entry))) n t
         (returned (r .result) (now (log .exit)) (now (charts .exit)) (now (copy .exit))) (r .table) ⌝ }
 {
     let o = format(state, cells, log, charts, copy, n);
@@ -62,7 +63,7 @@ pub fn open_core(
     t: [Scope; 64],
     fuse: Fuse,
 ) -> Out
-    ensures { λ r. ⌜ ByValue (OpenPost (allowance fuse)) (world state (now (log .entry)) (now (charts .entry)) (now (copy .entry))) n t
+    ensures { λ r. ⌜ ByValue (Opens fuse) (world state (now (log .entry)) (now (charts .entry)) (now (copy .entry))) n t
         (returned (r .result) (now (log .exit)) (now (charts .exit)) (now (copy .exit))) (r .table) ⌝ }
 {
     let o = open(state, log, charts, copy, n, fuse);

@@ -7,6 +7,7 @@ ghost use Rattle.book.specs.Numbers.{within};
 ghost use Rattle.book.specs.Pages.{chartBytes, pageAfter};
 ghost use Rattle.tables_model.specs.declared.Scope.{Scope};
 ghost use Rattle.state.specs.World.{world};
+ghost use Rattle.state.specs.Answers.{nothing, HasCase};
 ghost use Rattle.state.specs.Contracts.{badCell, cellsOf, formats};
 ghost use Rattle.recovery_model.specs.Answering.{leaves};
 use crate::ram::closed_by;
@@ -70,7 +71,7 @@ pub fn format(
 ) -> Restart
     ensures { λ r. ⌜ ((table : List Scope) → length table ≡ scopes
         → leaves r (now (log .exit)) (now (charts .exit)) (now (copy .exit)) table
-        ≡ formats (now (cells .entry)) (world state (now (log .entry)) (now (charts .entry)) (now (copy .entry)) table)) ⌝ }
+        ≡ formats (now (cells .entry)) (world state (now (log .entry)) (now (charts .entry)) (now (copy .entry)) table)) × HasCase nothing (r .answer) ⌝ }
 {
     if !lengths_fit(log.len(), charts.len(), copy.len(), scopes) {
         return refused(state, Answer::WrongLength);

@@ -7,7 +7,7 @@ ghost use lib.IntN.{pos};
 ghost use Rattle.book.specs.Book.{answer};
 ghost use Rattle.tables_model.specs.declared.Scope.{Scope};
 ghost use Rattle.state.specs.World.{world};
-ghost use Rattle.state.specs.Answers.{numberAndValue};
+ghost use Rattle.state.specs.Answers.{numberAndValue, written, refusal, caseOf, HasCase};
 ghost use Rattle.undo.specs.Writing.{ram};
 ghost use Rattle.recovery_model.specs.Checking.{Recovers, found};
 ghost use Rattle.recovery_model.specs.Answering.{leaves};
@@ -45,7 +45,7 @@ fn settle(c: Control, rows: usize, begun: u16, tail: [u8; 1024], copy: &mut [u8]
     requires { ⌜ c .stored + c .waiting ≤ 4096 ⌝ }
     requires { ⌜ length (now copy) ≡ 1024 ⌝ }
     ensures { λ r. ⌜ ((log charts : List ℕ) (table : List Scope) → leaves r log charts (now (copy .exit)) table
-        ≡ settledOpening rows begun (ram c log tail (now (copy .entry))) charts) ⌝ }
+        ≡ settledOpening rows begun (ram c log tail (now (copy .entry))) charts) × HasCase written (r .answer) ⌝ }
 {
     let phase = c.phase;
     match phase {
@@ -75,7 +75,7 @@ fn recover(
     requires { ⌜ Recovers s (length (now log)) (length (now copy)) (length (now scopes)) ⌝ }
     requires { ⌜ length (now charts) ≡ 1024 ⌝ }
     ensures { λ r. ⌜ ((table : List Scope) → leaves r (now (log .exit)) (now (charts .entry)) (now (copy .exit)) table
-        ≡ recoveredBy fuse (now (log .entry)) (now (charts .entry)) (found s (now (scopes .entry)))) ⌝ }
+        ≡ recoveredBy fuse (now (log .entry)) (now (charts .entry)) (found s (now (scopes .entry)))) × HasCase written (r .answer) ⌝ }
 {
     let rows = s.rows;
     let t = s.tables;
@@ -89,7 +89,7 @@ fn recover(
 
 // What is answered of a bad row.
 fn bad_row(reason: Reason, row: Lsn) -> Answer
-    ensures { λ r. ⌜ numberAndValue r ≡ answer (numberOfReason reason) (pos (row .0)) ⌝ }
+    ensures { λ r. ⌜ (numberAndValue r ≡ answer (numberOfReason reason) (pos (row .0))) × (caseOf r ≡ refusal) ⌝ }
 {
     match reason {
         Reason::Bytes => Answer::BadRow(row),
@@ -110,7 +110,7 @@ fn open_scanned(
     requires { ⌜ Recovers s (length (now log)) (length (now copy)) (length (now scopes)) ⌝ }
     requires { ⌜ (s .bad ≤ 4096) × (length (now charts) ≡ 1024) ⌝ }
     ensures { λ r. ⌜ ((table : List Scope) → leaves r (now (log .exit)) (now (charts .entry)) (now (copy .exit)) table
-        ≡ checkedBy fuse (now (log .entry)) (now (charts .entry)) (found s (now (scopes .entry)))) ⌝ }
+        ≡ checkedBy fuse (now (log .entry)) (now (charts .entry)) (found s (now (scopes .entry)))) × HasCase written (r .answer) ⌝ }
 {
     let bad = s.bad;
     let reason = s.reason;
@@ -135,7 +135,7 @@ pub fn open(
 ) -> Restart
     ensures { λ r. ⌜ ((table : List Scope) → length table ≡ scopes
         → leaves r (now (log .exit)) (now (charts .entry)) (now (copy .exit)) table
-        ≡ opensBy fuse (world state (now (log .entry)) (now (charts .entry)) (now (copy .entry)) table)) ⌝ }
+        ≡ opensBy fuse (world state (now (log .entry)) (now (charts .entry)) (now (copy .entry)) table)) × HasCase written (r .answer) ⌝ }
 {
     if !lengths_fit(log.len(), charts.len(), copy.len(), scopes) {
         return refused(state, Answer::WrongLength);

@@ -8,7 +8,7 @@ use Rattle.book.specs.Limits.{scopeLimit}
 use Rattle.book.specs.Scopes.{unused}
 use Rattle.tables_model.specs.declared.Scope.{Scope}
 use Rattle.state.specs.declared.ram.State.{State}
-use Rattle.state.specs.Contracts.{Answered, returned}
+use Rattle.state.specs.Contracts.{Answered, returned, answeredBy}
 use Rattle.journal.specs.declared.Control.{Control}
 use Rattle.recovery_model.specs.declared.Restart.{Restart}
 use Rattle.recovery_model.specs.Openings.{noneActive}
@@ -19,7 +19,7 @@ tableAfter clears table = cond clears (replicate scopeLimit (scopeOf unused)) ta
 
 -- the outcome of a format or an opening, what the buffers are after it, and the table that was lent
 abbrev pub leaves : Restart → List ℕ → List ℕ → List ℕ → List Scope → Answered
-leaves r log charts copy table = returned (record { state = r .state; answer = r .answer }) log charts copy (tableAfter (r .clears) table)
+leaves r log charts copy table = answeredBy (returned (record { state = r .state; answer = r .answer }) log charts copy (tableAfter (r .clears) table))
 
 -- the state of a ready opening
 abbrev pub openedState : Control → ℕ → List ℕ → State

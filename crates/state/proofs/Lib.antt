@@ -1,3 +1,4 @@
+pub mod Cases
 pub mod Lengths
 pub mod StoredCharts
 pub mod FormattedStores

@@ -1,7 +1,10 @@
 -- Document 01's refusal number and value for each case of an answer. Values not named are 0.
 use Prim.Native.Nat.{ℕ}
+use mathlib.Core.Path.{_≡_}
+use mathlib.Core.Logic.{_⊎_}
 use lib.IntN.{ℤ, pos}
 use Rattle.book.specs.Book as book
+use Rattle.book.specs.Calls.{Return, theVisit, theRow, theCell, zeroValue}
 use Rattle.state.specs.declared.answers.Answer.{Answer}
 use Rattle.state.specs.declared.answers.Answer.the-variants.{Done, Visit, Row, Grams, Wrote, WrongLength, CellOutOfRange, BadRow, BadPage, Closed, VisitsUsedUp, TooManyActive, NoRoom, NotActive, NoSuchCell, ScopesUsedUp, SameVisit, HoldsNone, NoSuchPage}
 
@@ -32,3 +35,46 @@ numberAndValue ScopesUsedUp = refusedBy 11
 numberAndValue SameVisit = refusedBy 12
 numberAndValue HoldsNone = refusedBy 13
 numberAndValue NoSuchPage = refusedBy 14
+
+-- ── Cases ─────────────────────────────────────────────────────────────────────────────────────────────────────────────
+
+-- what a done call answers with, or that it is refused
+pub data Case : Type 0 where
+  nothing : Case
+  visit : Case
+  row : Case
+  grams : Case
+  written : Case
+  refusal : Case
+
+abbrev pub caseOf : Answer → Case
+caseOf Done = nothing
+caseOf (Visit v) = visit
+caseOf (Row n) = row
+caseOf (Grams z) = grams
+caseOf (Wrote n) = written
+caseOf WrongLength = refusal
+caseOf (CellOutOfRange c) = refusal
+caseOf (BadRow n) = refusal
+caseOf (BadPage p) = refusal
+caseOf Closed = refusal
+caseOf VisitsUsedUp = refusal
+caseOf TooManyActive = refusal
+caseOf NoRoom = refusal
+caseOf NotActive = refusal
+caseOf NoSuchCell = refusal
+caseOf ScopesUsedUp = refusal
+caseOf SameVisit = refusal
+caseOf HoldsNone = refusal
+caseOf NoSuchPage = refusal
+
+-- 01: begin returns the visit; change, hand over, commit and abort their row's number; read a cell
+abbrev pub doneCase : Return → Case
+doneCase theVisit = visit
+doneCase theRow = row
+doneCase (theCell c) = grams
+doneCase zeroValue = nothing
+
+-- done with this, or refused
+abbrev pub HasCase : Case → Answer → Type 0
+HasCase c a = (caseOf a ≡ c) ⊎ (caseOf a ≡ refusal)

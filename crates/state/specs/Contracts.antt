@@ -26,9 +26,20 @@ pub record Answered : Type 0 where
   pub answer : Answer
   pub world : World
 
--- the same of a function: its result, and what the lent buffers are after it
-abbrev pub returned : Result → List ℕ → List ℕ → List ℕ → List Scope → Answered
-returned r log charts copy scopes = record { answer = numberAndValue (r .answer); world = world (r .state) log charts copy scopes }
+-- what a function gives back, and what the lent buffers are after it
+pub record Returned : Type 0 where
+  pub result : Result
+  pub log : List ℕ
+  pub charts : List ℕ
+  pub copy : List ℕ
+  pub scopes : List Scope
+
+abbrev pub returned : Result → List ℕ → List ℕ → List ℕ → List Scope → Returned
+returned r log charts copy scopes = record { result = r; log = log; charts = charts; copy = copy; scopes = scopes }
+
+-- with 01's number and value for the answer
+abbrev pub answeredBy : Returned → Answered
+answeredBy x = record { answer = numberAndValue (x .result .answer); world = world (x .result .state) (x .log) (x .charts) (x .copy) (x .scopes) }
 
 abbrev pub answered : ℕ → ℤ → World → Answered
 answered n v w = record { answer = answer n v; world = w }

@@ -2,4 +2,5 @@ pub mod Answers
 pub mod Requests
 pub mod World
 pub mod Contracts
+pub mod Functions
 pub mod Numbers

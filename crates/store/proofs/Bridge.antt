@@ -44,7 +44,7 @@ use denote.Triple.Walked.{says, Stays, stay-none, gave-slice, walkOf, goes-none,
 use denote.Exit.{yes}
 use Rattle.tables_model.specs.declared.Scope.{Scope}
 use Rattle.state.specs.World.{World, world}
-use Rattle.state.specs.Contracts.{Answered, returned}
+use Rattle.state.specs.Contracts.{Returned, returned}
 use Rattle.cores.proofs.outs.out_of as out-of
 use Rattle.store.proofs.Callees.{out-of-name, OutOf, to-out-of, goes-out-of}
 use Rattle.store.proofs.Calling.{calls-known}
@@ -55,7 +55,7 @@ use Rattle.store.proofs.Plain.{Plain, Of, last, silent}
 use Rattle.store.proofs.Promised.{kept}
 use Rattle.store.proofs.Thin.{call-ended, call-clauses, Call}
 
-module _ (X : Plain) (P : Of X → World → Answered → Type 0) where
+module _ (X : Plain) (P : Of X → World → Returned → Type 0) where
   abbrev on-ended : Ended
   on-ended = record {
     signature = record {

@@ -45,7 +45,7 @@ use denote.Triple.Walked.{says, Stays, stay-none, stay-dropped, gave-slice, walk
 use denote.Exit.{yes}
 use Rattle.tables_model.specs.declared.Scope.{Scope}
 use Rattle.state.specs.World.{World, world}
-use Rattle.state.specs.Contracts.{Answered, returned}
+use Rattle.state.specs.Contracts.{Returned, returned}
 use Rattle.cores.proofs.outs.out_of as out-of
 use Rattle.store.proofs.Callees.{out-of-name, OutOf, to-out-of, goes-out-of}
 use Rattle.store.proofs.Calling.{calls-known}
@@ -56,7 +56,7 @@ use Rattle.store.proofs.Plain.{Of, silent}
 use Rattle.store.proofs.Promised.{kept}
 use Rattle.store.proofs.ThinCells.{call-ended, call-clauses, Call}
 
-module _ (P : List ℤ → World → Answered → Type 0) where
+module _ (P : List ℤ → World → Returned → Type 0) where
   abbrev on-ended : Ended
   on-ended = record {
     signature = record {

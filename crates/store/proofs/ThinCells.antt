@@ -45,7 +45,7 @@ use denote.Triple.Walked.{says, Stays, stay-none, stay-dropped, gave-slice, walk
 use denote.Exit.{yes}
 use Rattle.tables_model.specs.declared.Scope.{Scope}
 use Rattle.state.specs.World.{World, world}
-use Rattle.state.specs.Contracts.{Answered, returned}
+use Rattle.state.specs.Contracts.{Returned, returned}
 use Rattle.cores.specs.Lent.{ByValue}
 use Rattle.store.specs.Table.{loaded, stored}
 use Rattle.cores.proofs.outs.result_of as result-of
@@ -60,7 +60,7 @@ use Rattle.store.proofs.Shared.{LentShared, lends-shared, shared-back}
 use Rattle.store.proofs.table.load as load′
 use Rattle.store.proofs.table.store as store′
 
-module _ (P : List ℤ → World → Answered → Type 0) where
+module _ (P : List ℤ → World → Returned → Type 0) where
   abbrev pub call-ended : Ended
   call-ended = record {
     signature = record {

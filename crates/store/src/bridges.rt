@@ -1,7 +1,7 @@
 // The public calls with the scope table by value, in and out: whoever calls these needs no walk. The table is lent from a local.
-ghost use Rattle.state.specs.Contracts.{FormatPost, OpenPost, CallPost, returned};
-ghost use Rattle.state.specs.Requests.{callOf};
-ghost use Rattle.state.specs.World.{world, allowance};
+ghost use Rattle.state.specs.Contracts.{returned};
+ghost use Rattle.state.specs.Functions.{Formats, Opens, Calls};
+ghost use Rattle.state.specs.World.{world};
 use crate::public::call;
 use crate::public::format;
 use crate::public::open;
@@ -20,7 +20,7 @@ pub fn format_on(
     table: [Scope; 64],
     cells: &[i32],
 ) -> Out
-    ensures { λ o. ⌜ FormatPost (now (cells .entry)) (world state (now (log .entry)) (now (charts .entry)) (now (copy .entry)) table)
+    ensures { λ o. ⌜ Formats (now (cells .entry)) (world state (now (log .entry)) (now (charts .entry)) (now (copy .entry)) table)
         (returned (o .result) (now (log .exit)) (now (charts .exit)) (now (copy .exit)) (o .table)) ⌝ }
 {
     let mut scopes = table;
@@ -36,7 +36,7 @@ pub fn open_on(
     table: [Scope; 64],
     fuse: Fuse,
 ) -> Out
-    ensures { λ o. ⌜ OpenPost (allowance fuse) (world state (now (log .entry)) (now (charts .entry)) (now (copy .entry)) table)
+    ensures { λ o. ⌜ Opens fuse (world state (now (log .entry)) (now (charts .entry)) (now (copy .entry)) table)
         (returned (o .result) (now (log .exit)) (now (charts .exit)) (now (copy .exit)) (o .table)) ⌝ }
 {
     let mut scopes = table;
@@ -52,7 +52,7 @@ pub fn call_on(
     table: [Scope; 64],
     request: Request,
 ) -> Out
-    ensures { λ o. ⌜ CallPost (callOf request) (world state (now (log .entry)) (now (charts .entry)) (now (copy .entry)) table)
+    ensures { λ o. ⌜ Calls request (world state (now (log .entry)) (now (charts .entry)) (now (copy .entry)) table)
         (returned (o .result) (now (log .exit)) (now (charts .exit)) (now (copy .exit)) (o .table)) ⌝ }
 {
     let mut scopes = table;

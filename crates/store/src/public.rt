@@ -1,8 +1,8 @@
 // The public calls: a store is formatted, opened, and then asked. They have the same text but for names and the last parameter: one proof serves those
 // whose last parameter is plain data, another the one to which cells are lent (`proofs/Thin`, `proofs/ThinCells`).
-ghost use Rattle.state.specs.Contracts.{FormatPost, OpenPost, CallPost, returned};
-ghost use Rattle.state.specs.Requests.{callOf};
-ghost use Rattle.state.specs.World.{world, allowance};
+ghost use Rattle.state.specs.Contracts.{returned};
+ghost use Rattle.state.specs.Functions.{Formats, Opens, Calls};
+ghost use Rattle.state.specs.World.{world};
 use crate::table::load;
 use crate::table::store;
 use cores::call::call_core;
@@ -24,7 +24,7 @@ pub fn format(
     scopes: &mut [Scope],
     cells: &[i32],
 ) -> Result
-    ensures { λ r. ⌜ FormatPost (now (cells .entry)) (world state (now (log .entry)) (now (charts .entry)) (now (copy .entry)) (now (scopes .entry)))
+    ensures { λ r. ⌜ Formats (now (cells .entry)) (world state (now (log .entry)) (now (charts .entry)) (now (copy .entry)) (now (scopes .entry)))
         (returned r (now (log .exit)) (now (charts .exit)) (now (copy .exit)) (now (scopes .exit))) ⌝ }
 {
     let n = scopes.len();
@@ -42,7 +42,7 @@ pub fn open(
     scopes: &mut [Scope],
     fuse: Fuse,
 ) -> Result
-    ensures { λ r. ⌜ OpenPost (allowance fuse) (world state (now (log .entry)) (now (charts .entry)) (now (copy .entry)) (now (scopes .entry)))
+    ensures { λ r. ⌜ Opens fuse (world state (now (log .entry)) (now (charts .entry)) (now (copy .entry)) (now (scopes .entry)))
         (returned r (now (log .exit)) (now (charts .exit)) (now (copy .exit)) (now (scopes .exit))) ⌝ }
 {
     let n = scopes.len();
@@ -60,7 +60,7 @@ pub fn call(
     scopes: &mut [Scope],
     request: Request,
 ) -> Result
-    ensures { λ r. ⌜ CallPost (callOf request) (world state (now (log .entry)) (now (charts .entry)) (now (copy .entry)) (now (scopes .entry)))
+    ensures { λ r. ⌜ Calls request (world state (now (log .entry)) (now (charts .entry)) (now (copy .entry)) (now (scopes .entry)))
         (returned r (now (log .exit)) (now (charts .exit)) (now (copy .exit)) (now (scopes .exit))) ⌝ }
 {
     let n = scopes.len();

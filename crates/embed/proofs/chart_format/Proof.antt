@@ -55,7 +55,7 @@ returns-2 c =
     let y = f .kept .1 .1 .1 .1 .0 ∙ part-long 1880 1024 (x .ram .now) (omega (arith, long)) in
     called (FormatPost (x .cells .now)) long
     (format-refused (x .ram .now) (x .log .now) (x .charts .now) long _ (f .result) (f .last .1 .1 .0) (f .last .1 .1 .1 .0) (f .last .1 .1 .1 .1 .0) y (x .cells .now)
-    (f .ensures) (c .packed2 .ensures) (λ z. c .before .if2 .taken (c .before .before .number-of .ensures ∙ z)))
+    (f .ensures .0) (c .packed2 .ensures) (λ z. c .before .if2 .taken (c .before .before .number-of .ensures ∙ z)))
 
 put-cleared-requires : tie.Need-put-cleared-requires
 put-cleared-requires c κs = search needs
@@ -80,7 +80,7 @@ returns-3 c =
     let y = f .kept .1 .1 .1 .1 .0 ∙ part-long 1880 1024 (x .ram .now) (omega (arith, long)) in
     called (FormatPost (x .cells .now)) long
     (format-done (x .ram .now) (x .log .now) (x .charts .now) long _ (f .result) (f .last .1 .1 .0) (f .last .1 .1 .1 .0) (f .last .1 .1 .1 .1 .0) y (x .cells .now)
-    (f .ensures) (c .packed3 .ensures) (sym (c .before .before .before .before .before .before .before .number-of .ensures) ∙ c .before .before .before .before .before .before .if2 .left) (c .before .before .before .put-cleared .ensures))
+    (f .ensures .0) (c .packed3 .ensures) (sym (c .before .before .before .before .before .before .before .number-of .ensures) ∙ c .before .before .before .before .before .before .if2 .left) (c .before .before .before .put-cleared .ensures))
 
 pub chart-format-spec : {M : Type 1} → statement M
 chart-format-spec =

@@ -83,7 +83,7 @@ returns-4 c =
     called (OpenPost (fuseIn (x .fuse))) long
     (rw (← fuse .ensures)
     (open-done (x .ram .now) (x .log .now) (x .charts .now) long _ (o .result) (o .last .1 .0) (x .charts .now) (o .last .1 .1 .1 .0) y (fuse .result)
-    (λ i. omega (arith, e .before .before .before .slice-known3 .given i)) (e .before .if2 .left) (e .if3 .left) (o .ensures) (c .packed4 .ensures) (c .before .before .before .put-cleared .ensures)))
+    (λ i. omega (arith, e .before .before .before .slice-known3 .given i)) (e .before .if2 .left) (e .if3 .left) (o .ensures .0) (c .packed4 .ensures) (c .before .before .before .put-cleared .ensures)))
 
 pub chart-open-spec : {M : Type 1} → statement M
 chart-open-spec =

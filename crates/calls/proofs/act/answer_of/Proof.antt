@@ -1,7 +1,7 @@
 -- `calls::act::answer_of` meets its contract: each arm has what its call returns. Assumes nothing.
 use native.Mathlib.Omega.{arith}
 use native.Mathlib.Numerals.{add-one}
-use mathlib.Core.Path.{ap, _∙_}
+use mathlib.Core.Path.{refl, ap, _∙_}
 use mir.Facts.{toZ-ofZ}
 use Rattle.state.specs.Answers.{done}
 use borrow.Author.Needs.{needs}
@@ -51,7 +51,7 @@ read-cell-requires : tie.Need-read-cell-requires
 read-cell-requires c κs = search needs
 
 returns : tie.Need-returns
-returns c = rw (c .enum-told .given .1, add-one)
+returns c = (rw (c .enum-told .given .1, add-one), rw (c .enum-told .given .1))
 
 returns-2 : tie.Need-returns-2
 returns-2 c = rw (c .before .enum-told2 .given .1) (c .row-answer .ensures)
@@ -66,13 +66,13 @@ returns-5 : tie.Need-returns-5
 returns-5 c = rw (c .before .enum-told5 .given .1) (c .row-answer4 .ensures)
 
 returns-6 : tie.Need-returns-6
-returns-6 c = rw (c .enum-told6 .given .1)
+returns-6 c = (rw (c .enum-told6 .given .1), rw (c .enum-told6 .given .1))
 
 returns-7 : tie.Need-returns-7
-returns-7 c = rw (c .enum-told7 .given .1)
+returns-7 c = (rw (c .enum-told7 .given .1), rw (c .enum-told7 .given .1))
 
 returns-8 : tie.Need-returns-8
-returns-8 c = rw (c .before .before .request .given .1) (ap done (toZ-ofZ (record { sfits = c .read-cell .ok }) ∙ c .read-cell .ensures))
+returns-8 c = rw (c .before .before .request .given .1) (ap done (toZ-ofZ (record { sfits = c .read-cell .ok }) ∙ c .read-cell .ensures), refl)
 
 pub answer-of-spec : {M : Type 1} → statement M
 answer-of-spec =

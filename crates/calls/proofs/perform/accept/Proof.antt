@@ -1,5 +1,6 @@
 -- `calls::perform::accept` meets its contract. Assumes nothing.
 use mathlib.Core.Path.{_≡_, refl, _∙_}
+use mathlib.Core.Logic.{inl, inr}
 use native.Mathlib.Omega.{arith}
 use Rattle.undo.proofs.Counters.{Counters, counters}
 use Rattle.calls_model.specs.Acts.{Core, core, acted}
@@ -59,7 +60,8 @@ returns : tie.Need-returns
 returns c =
     let a = c .before .before .before .before .before .before .before .before .before .before .before .before .before .before .before .before .before .before .before .before .before .before .before in
     let s = c .before .before .before .before .before .before .before .before .before .before .before .before .before .before .before .before .before .before .before .before .before .before .before .before .before .before .before .before .before .before .before .before .before .before in
-    c .before .before .before .before .before .before .cut-off .ensures _ _ ∙ when-cut (given s) (left a) (callOf (s .args .request)) (left-is a) (c .before .before .before .before .before .before .before .before .before .before .enum-told .given .1)
+    let cut = c .before .before .before .before .before .before .cut-off in
+    (cut .ensures .0 _ _ ∙ when-cut (given s) (left a) (callOf (s .args .request)) (left-is a) (c .before .before .before .before .before .before .before .before .before .before .enum-told .given .1), inr (cut .ensures .1))
 
 enum-told-2 : tie.Need-enum-told-2
 enum-told-2 c = search needs
@@ -92,7 +94,8 @@ returns-2 : tie.Need-returns-2
 returns-2 c =
     let a = c .before .before .before .before .before .before .before .before .before .before .before .before .before .before .before .before .before in
     let s = c .before .before .before .before .before .before .before .before .before .before .before .before .before .before .before .before .before .before .before .before .before .before .before .before .before .before .before .before in
-    when-done (given s) (left a) (callOf (s .args .request)) (left-is a) _ _ _ (c .before .before .before .before .enum-told2 .given .1) (c .before .answer-of .ensures) refl refl
+    let answer = c .before .answer-of in
+    (when-done (given s) (left a) (callOf (s .args .request)) (left-is a) _ _ _ (c .before .before .before .before .enum-told2 .given .1) (answer .ensures .0) refl refl, inl (answer .ensures .1))
 
 pub accept-spec : {M : Type 1} → statement M
 accept-spec =

@@ -1,4 +1,5 @@
 -- `calls::perform::cut_off` meets its contract. Assumes nothing.
+use mathlib.Core.Path.{refl}
 use Rattle.tables_model.specs.Visits.{noTables}
 use borrow.Author.Needs.{needs}
 use Rattle.calls.proofs.perform.cut_off.Statement.{statement}
@@ -27,7 +28,7 @@ same-length-3 c = search needs
 
 returns : tie.Need-returns
 unfolding noTables
-returns c = λ log charts. rw (c .before .before .before .before .before .before .before .before .before .before .before .clear .ensures, c .before .before .before .before .before .before .before .before .before .before .before .before .before .before .before .before .pre .0, c .before .before .before .before .before .before .before .clear2 .ensures, c .before .before .before .before .before .before .before .before .before .before .before .before .before .before .before .before .pre .1, c .before .before .before .clear3 .ensures .1, c .no-tables .ensures)
+returns c = (λ log charts. rw (c .before .before .before .before .before .before .before .before .before .before .before .clear .ensures, c .before .before .before .before .before .before .before .before .before .before .before .before .before .before .before .before .pre .0, c .before .before .before .before .before .before .before .clear2 .ensures, c .before .before .before .before .before .before .before .before .before .before .before .before .before .before .before .before .pre .1, c .before .before .before .clear3 .ensures .1, c .no-tables .ensures), refl)
 
 pub cut-off-spec : {M : Type 1} → statement M
 cut-off-spec =

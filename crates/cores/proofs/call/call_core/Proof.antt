@@ -1,5 +1,6 @@
 -- `cores::call::call_core` meets its contract. Assumes nothing.
-use mathlib.Core.Path.{_≡_, sym, _∙_}
+use mathlib.Core.Path.{_≡_, refl, sym, _∙_}
+use mathlib.Core.Logic.{inr}
 use lib.ListN.{length}
 use borrow.Author.Tests.{eq-eqb, not-true, not-false}
 use Rattle.state.specs.declared.answers.Answer.the-variants.{WrongLength}
@@ -39,8 +40,8 @@ returns c =
     let s = c .before .before .before .before .before .before .before in
     let x = s .args in
     rw (c .refused .ensures)
-    (by-value (x .state) (x .log .now) (x .charts .now) (x .copy .now) (x .n) (x .t) (callOf (x .request)) (c .before .before .before .is-typed .ensures) (record { state = x .state; answer = WrongLength }) _ _ _ (x .t)
-    (not-fit (x .n) (given s) (callOf (x .request)) (long s) (sym (c .before .before .lengths-fit .ensures) ∙ not-true _ (c .before .if1 .taken))))
+    (by-value (x .state) (x .log .now) (x .charts .now) (x .copy .now) (x .n) (x .t) (x .request) (c .before .before .before .is-typed .ensures) (record { state = x .state; answer = WrongLength }) _ _ _ (x .t)
+    (not-fit (x .n) (given s) (callOf (x .request)) (long s) (sym (c .before .before .lengths-fit .ensures) ∙ not-true _ (c .before .if1 .taken))) (inr refl))
 
 decide-requires : tie.Need-decide-requires
 decide-requires c κs = fits (c .before .before .before) .0
@@ -59,8 +60,8 @@ returns-2 c =
     let s = c .before .before .before .before .before .before .before .before .before .before .before .before .before .before .before .before in
     let x = s .args in
     let d = c .before .before .before .before .before .before .decide in
-    by-value (x .state) (x .log .now) (x .charts .now) (x .copy .now) (x .n) (x .t) (callOf (x .request)) (c .before .before .before .before .before .before .before .before .before .before .before .before .is-typed .ensures) (d .result .result) _ _ _ (d .result .table)
-    (d .ensures ∙ rw (eq-eqb (x .n) 64 (fits (c .before .before .before .before .before .before .before .before .before .before) .1)))
+    by-value (x .state) (x .log .now) (x .charts .now) (x .copy .now) (x .n) (x .t) (x .request) (c .before .before .before .before .before .before .before .before .before .before .before .before .is-typed .ensures) (d .result .result) _ _ _ (d .result .table)
+    (d .ensures .0 ∙ rw (eq-eqb (x .n) 64 (fits (c .before .before .before .before .before .before .before .before .before .before) .1))) (d .ensures .1)
 
 pub call-core-spec : {M : Type 1} → statement M
 call-core-spec =

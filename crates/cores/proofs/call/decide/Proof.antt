@@ -1,12 +1,14 @@
 -- `cores::call::decide` meets its contract. Assumes nothing.
 use Prim.Native.Nat.{ℕ}
 use mathlib.Core.Path.{_≡_, ap, sym, _∙_}
+use mathlib.Core.Logic.{_≢_, inr}
 use lib.ListN.{length}
 use Rattle.book.specs.Book.{Answer}
 use Rattle.tables_model.specs.Entries.{entries}
 use Rattle.state.specs.Answers.{numberAndValue, refusedBy}
 use Rattle.state.specs.Requests.{callOf}
 use Rattle.state.specs.World.{World, world}
+use Rattle.state.proofs.Cases.{refusal-case}
 use Rattle.calls_model.specs.Perform.{numberOf, performed}
 use Rattle.calls.proofs.Performing.{passed, right-number, when-refused, when-accepted}
 use borrow.Author.Needs.{needs}
@@ -61,8 +63,9 @@ unfolding performed
 returns c =
     let s = c .before .before .before .before .before .before .before .before .before .before .before .before .before in
     let k = c .before .before .before in
+    let other : numberAndValue (k .check .result) .number ≢ 0 = λ z. c .before .if1 .taken (c .before .before .number-of .ensures ∙ z) in
     rw (c .refused .ensures)
-    (when-refused (given s) (callOf (s .args .request)) _ _ (numbered k) (λ z. c .before .if1 .taken (c .before .before .number-of .ensures ∙ ap number (numbered k) ∙ z)))
+    (when-refused (given s) (callOf (s .args .request)) _ _ (numbered k) (λ z. other (ap number (numbered k) ∙ z)), inr (refusal-case (k .check .result) other))
 
 slice-aggregate-accept : tie.Need-slice-aggregate-accept
 slice-aggregate-accept c = sym (tail-long (c .before .before .before .before .before .before .before .before .before .before .before .before .before .before .before .before .before))
@@ -113,10 +116,10 @@ returns-2 c =
     let x = s .args in
     let a = c .before .before .before .before .before .before .before .before .before .before .before .accept in
     let k = c .before .before .before .before .before .before .before .before .before .before .before .before .before .before .before .before .before .before .before .before in
-    rw (c .before .before .new-state .ensures, c .table-from .ensures)
-    (rw (c .before .before .before .before .before .before .before .before .before .before .before .before .before .before .before .before .before .before .before .before .before .before .before .control-of .ensures) at (a .ensures) ∙
+    (rw (c .before .before .new-state .ensures, c .table-from .ensures)
+    (rw (c .before .before .before .before .before .before .before .before .before .before .before .before .before .before .before .before .before .before .before .before .before .before .before .control-of .ensures) at (a .ensures .0) ∙
     when-accepted (x .state) (x .log .now) (x .charts .now) (x .copy .now) (x .table) _ (callOf (x .request)) _ (c .before .before .before .before .before .before .before .before .before .before .before .before .before .before .before .before .before .before .before .before .before .before .before .before .before .flat-into .ensures)
-    (sym (ap number (numbered k)) ∙ sym (c .before .before .before .before .before .before .before .before .before .before .before .before .before .before .before .before .before .before .before .number-of .ensures) ∙ c .before .before .before .before .before .before .before .before .before .before .before .before .before .before .before .before .before .before .if1 .left))
+    (sym (ap number (numbered k)) ∙ sym (c .before .before .before .before .before .before .before .before .before .before .before .before .before .before .before .before .before .before .before .number-of .ensures) ∙ c .before .before .before .before .before .before .before .before .before .before .before .before .before .before .before .before .before .before .if1 .left)), a .ensures .1)
 
 pub decide-spec : {M : Type 1} → statement M
 decide-spec =

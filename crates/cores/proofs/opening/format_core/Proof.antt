@@ -32,7 +32,7 @@ returns c =
     let f = c .before .before .before .before .before .before .before .format in
     rw (c .with-table .ensures)
     (format-kept (x .state) (x .log .now) (x .charts .now) (x .copy .now) (x .n) (x .t) (long s) (record { state = f .result .state; answer = f .result .answer }) (f .result .clears)
-    (f .last .1 .1 .0) (f .last .1 .1 .1 .0) (f .last .1 .1 .1 .1 .0) (x .cells .now) (f .ensures))
+    (f .last .1 .1 .0) (f .last .1 .1 .1 .0) (f .last .1 .1 .1 .1 .0) (x .cells .now) (f .ensures .0) (f .ensures .1))
 
 pub format-core-spec : {M : Type 1} → statement M
 format-core-spec = tie.close (tie.spec format-requires with-table-requires same-length same-length-2 same-length-3 returns)

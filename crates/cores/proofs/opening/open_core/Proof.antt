@@ -33,7 +33,7 @@ returns c =
     let o = c .before .before .before .before .before .«open» in
     rw (c .with-table .ensures)
     (opening-kept (x .state) (x .log .now) (x .charts .now) (x .copy .now) (x .n) (x .t) (long s) (record { state = o .result .state; answer = o .result .answer }) (o .result .clears)
-    (o .last .1 .0) (x .charts .now) (o .last .1 .1 .1 .0) (x .fuse) (λ i. omega (arith, c .before .before .before .before .before .before .before .before .before .before .slice-known2 .given i)) (o .ensures))
+    (o .last .1 .0) (x .charts .now) (o .last .1 .1 .1 .0) (x .fuse) (λ i. omega (arith, c .before .before .before .before .before .before .before .before .before .before .slice-known2 .given i)) (o .ensures .0) (o .ensures .1))
 
 pub open-core-spec : {M : Type 1} → statement M
 open-core-spec = tie.close (tie.spec open-requires with-table-requires same-length same-length-2 same-length-3 returns)

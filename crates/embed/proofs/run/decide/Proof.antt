@@ -131,7 +131,7 @@ returns-2 c =
     let k = c .before .before .before .before .before .before .before .before .before .before .before .before .before .before .before .before .before in
     let a = k .accept in
     accepted-post (taken (k .before .before .before .before .before .before .before .before .before .before)) (free (k .before .before .before .before .before .before .before .before)) (k .before .before .before .before .before .before .tail-in .ensures) (a .result) (a .last .1 .1 .0) (a .last .1 .1 .1 .0) _
-    (a .last .1 .1 .1 .1 .1 .0) (a .last .1 .1 .1 .1 .1 .1 .0) (a .ensures) (copy-long k) (c .before .before .before .put .ensures) (c .packed2 .ensures)
+    (a .last .1 .1 .1 .1 .1 .0) (a .last .1 .1 .1 .1 .1 .1 .0) (a .ensures .0) (copy-long k) (c .before .before .before .put .ensures) (c .packed2 .ensures)
 
 pub decide-spec : {M : Type 1} → statement M
 decide-spec =

@@ -2,6 +2,7 @@
 use mathlib.Core.Path.{sym, _∙_}
 use lib.ListN.{length}
 use borrow.Author.Tests.{not-true, not-false, eq-eqb, ne-eqb, lt-ltb}
+use mathlib.Core.Logic.{inl, inr}
 use borrow.Author.Needs.{needs}
 use Rattle.state.specs.Contracts.{formats}
 use Rattle.recovery.proofs.Sizes.{Lengths, lengths-are}
@@ -19,7 +20,7 @@ returns : tie.Need-returns
 unfolding formats
 returns c =
     let f = c .before .before .lengths-fit in
-    λ table h. rw (h, c .refused .ensures, ← (f .ensures), not-true (f .result) (c .before .if1 .taken))
+    (λ table h. rw (h, c .refused .ensures, ← (f .ensures), not-true (f .result) (c .before .if1 .taken)), inr (rw (c .refused .ensures)))
 
 refused-requires-2 : tie.Need-refused-requires-2
 refused-requires-2 c κs = search needs
@@ -28,7 +29,7 @@ returns-2 : tie.Need-returns-2
 unfolding formats
 returns-2 c =
     let f = c .before .before .before .lengths-fit in
-    λ table h. rw (h, c .refused2 .ensures, ← (f .ensures), not-false (f .result) (c .before .before .if1 .left), ne-eqb _ _ (c .before .if2 .taken))
+    (λ table h. rw (h, c .refused2 .ensures, ← (f .ensures), not-false (f .result) (c .before .before .if1 .left), ne-eqb _ _ (c .before .if2 .taken)), inr (rw (c .refused2 .ensures)))
 
 bad-cell-requires : tie.Need-bad-cell-requires
 bad-cell-requires c κs = search needs
@@ -43,7 +44,7 @@ returns-3 : tie.Need-returns-3
 unfolding formats
 returns-3 c =
     let f = c .before .before .before .before .before .lengths-fit in
-    λ table h.
+    (λ table h.
     rw (
       h,
       c .refused3 .ensures,
@@ -52,7 +53,7 @@ returns-3 c =
       eq-eqb _ _ (c .before .before .before .if2 .left),
       ← (c .before .before .bad-cell .ensures),
       lt-ltb _ _ (c .before .if3 .taken),
-    )
+    ), inr (rw (c .refused3 .ensures)))
 
 -- past the test of the lengths
 lengths : (c : tie.Else1) → let a = c .before .before .before .before .before .args in Lengths (length (a .log .now)) (length (a .charts .now)) (length (a .copy .now))
@@ -88,13 +89,13 @@ returns-4 c =
     let long = counted .before in
     let f = long .before .lengths-fit in
     let l = lengths long in
-    λ table h.
+    (λ table h.
     rw (closed .closed-by .ensures .0, closed .closed-by .ensures .1, no-rows _ _ (cut .clear .ensures) (l .log), built .build-charts .ensures)
     (sym
     (formats-done _ _
     (rw h (sym (f .ensures) ∙ not-false (f .result) (long .if1 .left)))
     (counted .if2 .left)
-    (rw (← (passed .before .bad-cell .ensures)) (passed .if3 .left))))
+    (rw (← (passed .before .bad-cell .ensures)) (passed .if3 .left)))), inl (rw (closed .closed-by .ensures .0)))
 
 pub format-spec : {M : Type 1} → statement M
 format-spec =

@@ -2,6 +2,7 @@
 use mathlib.Core.Path.{refl, sym, ap, _∙_}
 use lib.ListN.{length}
 use borrow.Author.Tests.{not-true, not-false}
+use mathlib.Core.Logic.{inr}
 use borrow.Author.Needs.{needs}
 use Rattle.recovery_model.specs.Openings.{checkedBy, opensBy}
 use Rattle.recovery_model.specs.Scan.{Scanned}
@@ -20,7 +21,7 @@ returns : tie.Need-returns
 unfolding opensBy
 returns c =
     let f = c .before .before .lengths-fit in
-    λ table h. rw (h, c .refused .ensures, ← (f .ensures), not-true (f .result) (c .before .if1 .taken))
+    (λ table h. rw (h, c .refused .ensures, ← (f .ensures), not-true (f .result) (c .before .if1 .taken)), inr (rw (c .refused .ensures)))
 
 slice-aggregate-scan-log : tie.Need-slice-aggregate-scan-log
 slice-aggregate-scan-log c = search needs
@@ -54,9 +55,9 @@ returns-2 : tie.Need-returns-2
 unfolding opensBy
 returns-2 c =
     let a = c .before .before .before .before .before .before .before .before .before .before .before .before .before .before .before .before .before .before .args in
-    λ table h.
+    (λ table h.
     rw (h, ← (c .before .before .before .before .before .before .before .before .before .before .before .before .before .before .lengths-fit .ensures), not-false (c .before .before .before .before .before .before .before .before .before .before .before .before .before .before .lengths-fit .result) (c .before .before .before .before .before .before .before .before .before .before .before .before .before .if1 .left))
-    (c .before .before .before .before .before .open-scanned .ensures table ∙ ap (λ (s : Scanned). checkedBy (a .fuse) (a .log .now) (a .charts .now) s) (c .before .before .before .before .before .before .before .before .before .before .scan-log .ensures))
+    (c .before .before .before .before .before .open-scanned .ensures .0 table ∙ ap (λ (s : Scanned). checkedBy (a .fuse) (a .log .now) (a .charts .now) s) (c .before .before .before .before .before .before .before .before .before .before .scan-log .ensures)), c .before .before .before .before .before .open-scanned .ensures .1)
 
 pub open-spec : {M : Type 1} → statement M
 open-spec =

@@ -1,5 +1,6 @@
 -- `recovery::open::open_scanned` meets its contract. Assumes nothing.
 use borrow.Author.Tests.{eq-eqb, ne-eqb, lt-ltb, le-ltb}
+use mathlib.Core.Logic.{inr}
 use borrow.Author.Needs.{needs}
 use Rattle.recovery.proofs.open.open_scanned.Statement.{statement}
 use Rattle.recovery.proofs.open.open_scanned.Tie as tie
@@ -20,8 +21,10 @@ returns : tie.Need-returns
 returns c =
     let closed = c .before .before in
     let judged = closed .before in
-    λ table.
-    rw (closed .closed-by .ensures .0, closed .closed-by .ensures .1, judged .bad-row .ensures, ne-eqb _ _ (judged .before .before .if1 .taken))
+    (
+      λ table. rw (closed .closed-by .ensures .0, closed .closed-by .ensures .1, judged .bad-row .ensures .0, ne-eqb _ _ (judged .before .before .if1 .taken)),
+      inr (rw (closed .closed-by .ensures .0) (judged .bad-row .ensures .1)),
+    )
 
 bad-page-requires : tie.Need-bad-page-requires
 bad-page-requires c κs = search needs
@@ -43,13 +46,15 @@ returns-2 c =
     let closed = c .before .before in
     let low = closed .before .before in
     let page = low .before in
-    λ table.
-    rw (
-      closed .closed-by2 .ensures .0,
-      closed .closed-by2 .ensures .1,
-      eq-eqb _ _ (page .before .before .if1 .left),
-      ← (page .bad-page .ensures),
-      lt-ltb _ _ (low .if2 .taken),
+    (
+      λ table. rw (
+        closed .closed-by2 .ensures .0,
+        closed .closed-by2 .ensures .1,
+        eq-eqb _ _ (page .before .before .if1 .left),
+        ← (page .bad-page .ensures),
+        lt-ltb _ _ (low .if2 .taken),
+      ),
+      inr (rw (closed .closed-by2 .ensures .0)),
     )
 
 recover-requires : tie.Need-recover-requires
@@ -69,8 +74,10 @@ returns-3 c =
     let recovered = c .before .before .before .before .before .before in
     let none = recovered .before .before .before .before in
     let page = none .before in
-    λ table.
-    rw (eq-eqb _ _ (page .before .before .if1 .left), ← (page .bad-page .ensures), le-ltb _ _ (none .if2 .left)) (recovered .recover .ensures table)
+    (
+      λ table. rw (eq-eqb _ _ (page .before .before .if1 .left), ← (page .bad-page .ensures), le-ltb _ _ (none .if2 .left)) (recovered .recover .ensures .0 table),
+      recovered .recover .ensures .1,
+    )
 
 pub open-scanned-spec : {M : Type 1} → statement M
 open-scanned-spec =

@@ -43,7 +43,7 @@ returns : tie.Need-returns
 returns c =
     let s = c .before .before .before .before .before .before .before .before .before .before .before .before .before .before .before .before .before .before .before .before .before .before .before .before .before .before .before .before .before .before in
     let loaded = c .before .before .before .before .before .before .before .before .before .before .before .before .before .before .before .before .before .before .before .before .before .before .before .copy .ensures .1 ∙ copied (s .args .charts .now) (s .args .copy .now) (s .pre .0 .copy-long ∙ sym (s .pre .1)) in
-    λ table. c .before .before .settle .ensures _ _ table ∙ rw (c .before .before .before .before .before .before .before .before .before .before .before .backward .ensures, c .before .before .before .before .before .before .before .before .before .before .before .before .before .before .before .before .before .before .redo .ensures, loaded)
+    (λ table. c .before .before .settle .ensures .0 _ _ table ∙ rw (c .before .before .before .before .before .before .before .before .before .before .before .backward .ensures, c .before .before .before .before .before .before .before .before .before .before .before .before .before .before .before .before .before .before .redo .ensures, loaded), c .before .before .settle .ensures .1)
 
 pub recover-spec : {M : Type 1} → statement M
 recover-spec =

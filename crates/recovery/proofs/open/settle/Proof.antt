@@ -1,4 +1,6 @@
 -- `recovery::open::settle` meets its contract. Assumes nothing.
+use mathlib.Core.Logic.{inl, inr}
+use mathlib.Core.Path.{refl}
 use borrow.Author.Needs.{needs}
 use Rattle.recovery_model.specs.Openings.{settledOpening}
 use Rattle.recovery.proofs.open.settle.Statement.{statement}
@@ -15,7 +17,10 @@ same-length c = search needs
 
 returns : tie.Need-returns
 unfolding settledOpening
-returns c = λ log charts table. rw (c .before .before .before .before .enum-told .given .1, c .before .before .closed-by .ensures .0, c .before .before .closed-by .ensures .1)
+returns c = (
+  λ log charts table. rw (c .before .before .before .before .enum-told .given .1, c .before .before .closed-by .ensures .0, c .before .before .closed-by .ensures .1),
+  inr (rw (c .before .before .closed-by .ensures .0)),
+)
 
 enum-told-2 : tie.Need-enum-told-2
 enum-told-2 c = search needs
@@ -28,7 +33,7 @@ opened-state-requires c κs = search needs
 
 returns-2 : tie.Need-returns-2
 unfolding settledOpening
-returns-2 c = λ log charts table. rw (c .opened-state .ensures, c .before .rows-written .ensures, c .before .before .enum-told2 .given .1)
+returns-2 c = (λ log charts table. rw (c .opened-state .ensures, c .before .rows-written .ensures, c .before .before .enum-told2 .given .1), inl refl)
 
 pub settle-spec : {M : Type 1} → statement M
 settle-spec =

@@ -32,7 +32,7 @@ returns c =
     let a = c .before .before .before .before .before .before .before .before .before .before .before .before .before .before .before .before .before .before .before .args in
     let closed = c .before .before .before .before .before .before .before .before .before .before .before .before .before .before .before .closed-state .result in
     let lengths = right-lengths closed (a .log .now) (a .charts .now) (a .copy .now) _ (k .0) (k .1) (k .2) (c .before .before .before .before .before .before .before .before .before .before .before .before .before .before .blank .ensures) in
-    (format-stands _ _ lengths (c .before .before .before .before .before .before .before .before .before .format-on .ensures), refl)
+    (format-stands _ _ lengths (c .before .before .before .before .before .before .before .before .before .format-on .ensures .post), refl)
 
 pub formatted-at-zeros-spec : {M : Type 1} → statement M
 formatted-at-zeros-spec =

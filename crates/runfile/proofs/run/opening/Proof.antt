@@ -27,7 +27,7 @@ same-length-4 c = search needs
 returns : tie.Need-returns
 returns c =
     let a = c .before .before .before .before .before .before .before .before .before .before .before .before .before .before .before .before .before .before .before .before .args in
-    let post = c .before .before .before .before .before .before .before .before .before .before .open-on .ensures in
+    let post = c .before .before .before .before .before .before .before .before .before .before .open-on .ensures .post in
     let t = c .before .before .tell .ensures in
     rw (t .2, t .3)
     (plays-one _ (a .session) 0 _ _ (a .point .at) _ _ _ (λ b r. open-answers b (allowance (a .fuse)) _ _ r post) (t .0) (t .1))

@@ -29,7 +29,7 @@ same-length-4 c = search needs
 returns : tie.Need-returns
 returns c =
     let a = c .before .before .before .before .before .before .before .before .before .before .before .before .before .before .before .before .before .before .before .before .before .before .args in
-    let post = rw (c .before .before .before .before .before .before .before .before .before .before .before .before .before .before .call-at .ensures) at (c .before .before .before .before .before .before .before .before .before .before .call-on .ensures) in
+    let post = rw (c .before .before .before .before .before .before .before .before .before .before .before .before .before .before .call-at .ensures) at (c .before .before .before .before .before .before .before .before .before .before .call-on .ensures .post) in
     let t = c .before .before .tell .ensures in
     rw (t .2, t .3)
     (plays-one _ (a .session) (a .call) _ _ (a .point .at) _ _ _ (λ b r. call-answers b (a .file .now) (a .place) _ _ r post) (t .0) (t .1))
