@@ -10,7 +10,7 @@ ghost use Rattle.book.specs.Calls.{Call};
 ghost use Rattle.book.specs.Limits.{pageLimit};
 ghost use Rattle.book.specs.Rows.{isCell};
 ghost use Rattle.tables_model.specs.Visits.{InRange, isListed};
-ghost use Rattle.tables_model.specs.Rows.{Ready, index, hasEntry};
+ghost use Rattle.tables_model.specs.Rows.{Ready, index};
 ghost use Rattle.state.specs.Answers.{numberAndValue, refusedBy};
 ghost use Rattle.state.specs.Requests.{callOf};
 ghost use Rattle.calls_model.specs.Refusals.{refusalBy};
@@ -20,7 +20,7 @@ use rows::ranges::is_cell;
 use state::answers::Answer;
 use state::requests::Request;
 use tables::lookup::holds_cell;
-use tables::rules::grows_scope;
+use tables::rules::has_entry;
 use tables::rules::has_room;
 use tables::visits::is_listed;
 use tables_model::CellSet;
@@ -48,17 +48,6 @@ fn refuse_begin(t: Tables, scopes: &[u16], rows: usize) -> Answer
     } else {
         Answer::NoRoom
     }
-}
-
-// A change of the cell by the visit grows a scope, or an entry is vacant.
-fn has_entry(t: Tables, scopes: &[u16], v: Visit, c: Cell) -> bool
-    requires { ⌜ Ready t (length (now scopes)) ⌝ }
-    ensures { λ r. ⌜ r ≡ hasEntry (index t (now (scopes .entry))) (v .0) (c .0) ⌝ }
-{
-    if grows_scope(t, scopes, v, c) {
-        return true;
-    }
-    t.used < 64
 }
 
 fn refuse_change(t: Tables, scopes: &[u16], rows: usize, v: Visit, c: Cell) -> Answer

@@ -1,11 +1,12 @@
 -- The turns of the loops over pages and rows of the forward part, and a row of a page by its bytes. Assumes nothing.
 use Prim.Native.Nat.{ℕ, zero, suc, _+_, _-_, _/_, _%_, _≤_, _<_}
-use mathlib.Core.Path.{_≡_, refl, ap, _∙_}
-use mathlib.Core.Bool.{Bool, true, false}
+use mathlib.Core.Path.{_≡_, refl, ap, sym, _∙_}
+use mathlib.Core.Bool.{Bool, true, false, _&&_, _||_, and-true, and-false}
 use mathlib.Core.List.{List}
 use native.Mathlib.Omega.{arith}
 use native.Mathlib.Numerals.{add-one}
 use lib.Dec.{eqb}
+use borrow.Author.Tests.{ne-eqb}
 use lib.IntN.{ℤ}
 use lib.ListN.{getD, length}
 use Rattle.book.specs.Lists.{firstFailing}
@@ -25,24 +26,22 @@ use Rattle.recovery.proofs.LookUps.{row-by-bytes}
 pub effect-coded : (r : Row) → effectMeant (effectOf (coded r)) ≡ effect r
 effect-coded r = effect-meant (coded r) ∙ ap effect (meant-coded r)
 
-no-page : (k v r c u : ℕ) (a : ℤ) (p : ℕ) → (k ≡ 2 → ⊥) → (k ≡ 4 → ⊥) → onPage p (rowOfKind k v r c u a) ≡ false
-no-page zero v r c u a p h i = refl
-no-page (suc zero) v r c u a p h i = refl
-no-page (suc (suc zero)) v r c u a p h i = absurd (h refl)
-no-page (suc (suc (suc zero))) v r c u a p h i = refl
-no-page (suc (suc (suc (suc zero)))) v r c u a p h i = absurd (i refl)
-no-page (suc (suc (suc (suc (suc zero))))) v r c u a p h i = refl
-no-page (suc (suc (suc (suc (suc (suc k)))))) v r c u a p h i = refl
+-- a row is one of the page exactly if its cell is there and it is a change, kind 2, or an undo, kind 4
+page-by-kind : (k v r c u : ℕ) (a : ℤ) (p : ℕ) → onPage p (rowOfKind k v r c u a) ≡ (eqb (c / 7) p && (eqb k 2 || eqb k 4))
+page-by-kind zero v r c u a p = sym (and-false (eqb (c / 7) p))
+page-by-kind (suc zero) v r c u a p = sym (and-false (eqb (c / 7) p))
+page-by-kind (suc (suc zero)) v r c u a p = sym (and-true (eqb (c / 7) p))
+page-by-kind (suc (suc (suc zero))) v r c u a p = sym (and-false (eqb (c / 7) p))
+page-by-kind (suc (suc (suc (suc zero)))) v r c u a p = sym (and-true (eqb (c / 7) p))
+page-by-kind (suc (suc (suc (suc (suc zero))))) v r c u a p = sym (and-false (eqb (c / 7) p))
+page-by-kind (suc (suc (suc (suc (suc (suc k)))))) v r c u a p =
+    let n = suc (suc (suc (suc (suc (suc k))))) in
+    let not-2 : eqb n 2 ≡ false = ne-eqb n 2 (λ e. omega arith) in
+    let not-4 : eqb n 4 ≡ false = ne-eqb n 4 (λ e. omega arith) in
+    rw (not-2, not-4) (sym (and-false (eqb (c / 7) p)))
 
-module _ (b : List ℕ) (p : ℕ) where
-  pub change-page : getD b 0 0 ≡ 2 → onPage p (rowOf b) ≡ eqb (getD b 3 0 / 7) p
-  change-page e = rw (row-by-bytes b, e)
-
-  pub undo-page : getD b 0 0 ≡ 4 → onPage p (rowOf b) ≡ eqb (getD b 3 0 / 7) p
-  undo-page e = rw (row-by-bytes b, e)
-
-  pub other-page : (getD b 0 0 ≡ 2 → ⊥) → (getD b 0 0 ≡ 4 → ⊥) → onPage p (rowOf b) ≡ false
-  other-page h i = rw (row-by-bytes b) (no-page (getD b 0 0) _ _ _ _ _ p h i)
+pub page-by-bytes : (b : List ℕ) (p : ℕ) → onPage p (rowOf b) ≡ (eqb (getD b 3 0 / 7) p && (eqb (getD b 0 0) 2 || eqb (getD b 0 0) 4))
+page-by-bytes b p = rw (row-by-bytes b) (page-by-kind (getD b 0 0) _ _ _ _ _ p)
 
 -- a row of the page moves it, another does not
 pub redone-here : (p : ℕ) (e : Effect) (n : ℕ) (bs : List ℕ) → touches p e ≡ true → pageRedone p e n bs ≡ pageWith e n bs

@@ -87,18 +87,12 @@ pub fn bad_page(log: &[u8], rows: usize, charts: &[u8]) -> usize
 
 // ── The forward part ──────────────────────────────────────────────────────────────────────────────────────────────────
 
-// The 16 bytes are a change or an undo of page p: kind and cell alone are looked at.
+// The 16 bytes are a change or an undo of page p: cell and kind alone are looked at, the cell first, since it rules most rows out.
 fn is_row_of(b: &[u8], p: usize) -> bool
     requires { ⌜ length (now b) ≡ 16 ⌝ }
     ensures { λ r. ⌜ r ≡ onPage p (rowOf (now (b .entry))) ⌝ }
 {
-    if b[0] == 2 {
-        return is_on_page(Cell(b[3]), p);
-    }
-    if b[0] == 4 {
-        return is_on_page(Cell(b[3]), p);
-    }
-    false
+    is_on_page(Cell(b[3]), p) && (b[0] == 2 || b[0] == 4)
 }
 
 // The effect of row n on the page of its cell.

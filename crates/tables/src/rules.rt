@@ -7,7 +7,7 @@ ghost use lib.Dec.{eqb};
 ghost use Rattle.book.specs.Lists.{eqZ};
 ghost use Rattle.rows.specs.Meaning.{meant};
 ghost use Rattle.tables_model.specs.Visits.{InRange};
-ghost use Rattle.tables_model.specs.Rows.{Ready, index, reserveBy, roomBy, highestOf, growsBy, isChange, mayAct};
+ghost use Rattle.tables_model.specs.Rows.{Ready, index, reserveBy, roomBy, highestOf, growsBy, hasEntry, isChange, mayAct};
 ghost use Rattle.tables_model.specs.Table.{among};
 ghost use Rattle.tables_model.specs.Rows.{mayHandOver, mayUndo, mayAbort, lawfulBy, roomToBegin, roomToChange, withinLimitsBy, judgeBy};
 use crate::lookup::find_growing;
@@ -61,7 +61,7 @@ pub fn highest_of(t: Tables, scopes: &[u16], v: Visit) -> Lsn
 }
 
 // A change of the cell by the visit would grow a scope.
-pub fn grows_scope(t: Tables, scopes: &[u16], v: Visit, c: Cell) -> bool
+fn grows_scope(t: Tables, scopes: &[u16], v: Visit, c: Cell) -> bool
     requires { ⌜ Ready t (length (now scopes)) ⌝ }
     ensures { λ r. ⌜ r ≡ growsBy (index t (now (scopes .entry))) (v .0) (c .0) ⌝ }
 {
@@ -70,6 +70,14 @@ pub fn grows_scope(t: Tables, scopes: &[u16], v: Visit, c: Cell) -> bool
         Found::At(_) => true,
         Found::Nothing => false,
     }
+}
+
+// A change of the cell by the visit has an entry: a vacant one, or that of a scope which it grows. The second test searches the table, so it comes second.
+pub fn has_entry(t: Tables, scopes: &[u16], v: Visit, c: Cell) -> bool
+    requires { ⌜ Ready t (length (now scopes)) ⌝ }
+    ensures { λ r. ⌜ r ≡ hasEntry (index t (now (scopes .entry))) (v .0) (c .0) ⌝ }
+{
+    t.used < 64 || grows_scope(t, scopes, v, c)
 }
 
 // The visit is active, and no undo row bears it.
@@ -191,10 +199,7 @@ fn room_to_change(t: Tables, scopes: &[u16], rows: usize, v: Visit, c: Cell) -> 
     requires { ⌜ Ready t (length (now scopes)) ⌝ }
     ensures { λ r. ⌜ r ≡ roomToChange (index t (now (scopes .entry))) rows (v .0) (c .0) ⌝ }
 {
-    if grows_scope(t, scopes, v, c) {
-        return has_room(t, scopes, rows, 2);
-    }
-    if t.used < 64 {
+    if has_entry(t, scopes, v, c) {
         has_room(t, scopes, rows, 2)
     } else {
         false
