@@ -56,8 +56,7 @@ module _ (s : State) (log charts copy : List ℕ) (n : ℕ) (t : List Scope) (lo
       → ((ys : List Scope) → length ys ≡ n → answeredBy (returned r log′ charts′ copy′ (tableAfter clears ys)) ≡ opensBy f (world s log charts copy ys))
       → HasCase written (r .answer) → ByValue (Opens f) (world s log charts copy) n t (returned r log′ charts′ copy′) (tableAfter clears t)
   opening-kept f bytes e case =
-      let k = by-table (opensBy f) (opens-apart f) e in
-      (
+      let k = by-table (opensBy f) (opens-apart f) e in (
         λ h. record { post = record { is = k .0 h ∙ opens-by f (world s log charts copy t) bytes }; case = case },
         λ ne ys l. record { post = record { is = k .1 ne ys l ∙ opens-by f (world s log charts copy ys) bytes }; case = case },
       )

@@ -115,11 +115,13 @@ returns-2 c =
     let s = c .before .before .before .before .before .before .before .before .before .before .before .before .before .before .before .before .before .before .before .before .before .before .before .before .before .before .before .before .before .before in
     let x = s .args in
     let a = c .before .before .before .before .before .before .before .before .before .before .before .accept in
-    let k = c .before .before .before .before .before .before .before .before .before .before .before .before .before .before .before .before .before .before .before .before in
-    (rw (c .before .before .new-state .ensures, c .table-from .ensures)
-    (rw (c .before .before .before .before .before .before .before .before .before .before .before .before .before .before .before .before .before .before .before .before .before .before .before .control-of .ensures) at (a .ensures .0) ∙
-    when-accepted (x .state) (x .log .now) (x .charts .now) (x .copy .now) (x .table) _ (callOf (x .request)) _ (c .before .before .before .before .before .before .before .before .before .before .before .before .before .before .before .before .before .before .before .before .before .before .before .before .before .flat-into .ensures)
-    (sym (ap number (numbered k)) ∙ sym (c .before .before .before .before .before .before .before .before .before .before .before .before .before .before .before .before .before .before .before .number-of .ensures) ∙ c .before .before .before .before .before .before .before .before .before .before .before .before .before .before .before .before .before .before .if1 .left)), a .ensures .1)
+    let k = c .before .before .before .before .before .before .before .before .before .before .before .before .before .before .before .before .before .before .before .before in (
+      rw (c .before .before .new-state .ensures, c .table-from .ensures)
+          (rw (c .before .before .before .before .before .before .before .before .before .before .before .before .before .before .before .before .before .before .before .before .before .before .before .control-of .ensures) at (a .ensures .0) ∙
+          when-accepted (x .state) (x .log .now) (x .charts .now) (x .copy .now) (x .table) _ (callOf (x .request)) _ (c .before .before .before .before .before .before .before .before .before .before .before .before .before .before .before .before .before .before .before .before .before .before .before .before .before .flat-into .ensures)
+          (sym (ap number (numbered k)) ∙ sym (c .before .before .before .before .before .before .before .before .before .before .before .before .before .before .before .before .before .before .before .number-of .ensures) ∙ c .before .before .before .before .before .before .before .before .before .before .before .before .before .before .before .before .before .before .if1 .left)),
+      a .ensures .1,
+    )
 
 pub decide-spec : {M : Type 1} → statement M
 decide-spec =

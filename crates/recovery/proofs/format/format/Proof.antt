@@ -43,17 +43,19 @@ refused-requires-3 c κs = search needs
 returns-3 : tie.Need-returns-3
 unfolding formats
 returns-3 c =
-    let f = c .before .before .before .before .before .lengths-fit in
-    (λ table h.
-    rw (
-      h,
-      c .refused3 .ensures,
-      ← (f .ensures),
-      not-false (f .result) (c .before .before .before .before .if1 .left),
-      eq-eqb _ _ (c .before .before .before .if2 .left),
-      ← (c .before .before .bad-cell .ensures),
-      lt-ltb _ _ (c .before .if3 .taken),
-    ), inr (rw (c .refused3 .ensures)))
+    let f = c .before .before .before .before .before .lengths-fit in (
+      λ table h.
+          rw (
+            h,
+            c .refused3 .ensures,
+            ← (f .ensures),
+            not-false (f .result) (c .before .before .before .before .if1 .left),
+            eq-eqb _ _ (c .before .before .before .if2 .left),
+            ← (c .before .before .bad-cell .ensures),
+            lt-ltb _ _ (c .before .if3 .taken),
+          ),
+      inr (rw (c .refused3 .ensures)),
+    )
 
 -- past the test of the lengths
 lengths : (c : tie.Else1) → let a = c .before .before .before .before .before .args in Lengths (length (a .log .now)) (length (a .charts .now)) (length (a .copy .now))
@@ -88,14 +90,16 @@ returns-4 c =
     let counted = passed .before .before in
     let long = counted .before in
     let f = long .before .lengths-fit in
-    let l = lengths long in
-    (λ table h.
-    rw (closed .closed-by .ensures .0, closed .closed-by .ensures .1, no-rows _ _ (cut .clear .ensures) (l .log), built .build-charts .ensures)
-    (sym
-    (formats-done _ _
-    (rw h (sym (f .ensures) ∙ not-false (f .result) (long .if1 .left)))
-    (counted .if2 .left)
-    (rw (← (passed .before .bad-cell .ensures)) (passed .if3 .left)))), inl (rw (closed .closed-by .ensures .0)))
+    let l = lengths long in (
+      λ table h.
+          rw (closed .closed-by .ensures .0, closed .closed-by .ensures .1, no-rows _ _ (cut .clear .ensures) (l .log), built .build-charts .ensures)
+          (sym
+          (formats-done _ _
+          (rw h (sym (f .ensures) ∙ not-false (f .result) (long .if1 .left)))
+          (counted .if2 .left)
+          (rw (← (passed .before .bad-cell .ensures)) (passed .if3 .left)))),
+      inl (rw (closed .closed-by .ensures .0)),
+    )
 
 pub format-spec : {M : Type 1} → statement M
 format-spec =

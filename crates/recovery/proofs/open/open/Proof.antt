@@ -54,10 +54,12 @@ same-length-2 c = search needs
 returns-2 : tie.Need-returns-2
 unfolding opensBy
 returns-2 c =
-    let a = c .before .before .before .before .before .before .before .before .before .before .before .before .before .before .before .before .before .before .args in
-    (λ table h.
-    rw (h, ← (c .before .before .before .before .before .before .before .before .before .before .before .before .before .before .lengths-fit .ensures), not-false (c .before .before .before .before .before .before .before .before .before .before .before .before .before .before .lengths-fit .result) (c .before .before .before .before .before .before .before .before .before .before .before .before .before .if1 .left))
-    (c .before .before .before .before .before .open-scanned .ensures .0 table ∙ ap (λ (s : Scanned). checkedBy (a .fuse) (a .log .now) (a .charts .now) s) (c .before .before .before .before .before .before .before .before .before .before .scan-log .ensures)), c .before .before .before .before .before .open-scanned .ensures .1)
+    let a = c .before .before .before .before .before .before .before .before .before .before .before .before .before .before .before .before .before .before .args in (
+      λ table h.
+          rw (h, ← (c .before .before .before .before .before .before .before .before .before .before .before .before .before .before .lengths-fit .ensures), not-false (c .before .before .before .before .before .before .before .before .before .before .before .before .before .before .lengths-fit .result) (c .before .before .before .before .before .before .before .before .before .before .before .before .before .if1 .left))
+          (c .before .before .before .before .before .open-scanned .ensures .0 table ∙ ap (λ (s : Scanned). checkedBy (a .fuse) (a .log .now) (a .charts .now) s) (c .before .before .before .before .before .before .before .before .before .before .scan-log .ensures)),
+      c .before .before .before .before .before .open-scanned .ensures .1,
+    )
 
 pub open-spec : {M : Type 1} → statement M
 open-spec =

@@ -20,8 +20,7 @@ same-length c = search needs
 returns : tie.Need-returns
 returns c =
     let closed = c .before .before in
-    let judged = closed .before in
-    (
+    let judged = closed .before in (
       λ table. rw (closed .closed-by .ensures .0, closed .closed-by .ensures .1, judged .bad-row .ensures .0, ne-eqb _ _ (judged .before .before .if1 .taken)),
       inr (rw (closed .closed-by .ensures .0) (judged .bad-row .ensures .1)),
     )
@@ -45,8 +44,7 @@ returns-2 : tie.Need-returns-2
 returns-2 c =
     let closed = c .before .before in
     let low = closed .before .before in
-    let page = low .before in
-    (
+    let page = low .before in (
       λ table. rw (
         closed .closed-by2 .ensures .0,
         closed .closed-by2 .ensures .1,
@@ -73,8 +71,7 @@ returns-3 : tie.Need-returns-3
 returns-3 c =
     let recovered = c .before .before .before .before .before .before in
     let none = recovered .before .before .before .before in
-    let page = none .before in
-    (
+    let page = none .before in (
       λ table. rw (eq-eqb _ _ (page .before .before .if1 .left), ← (page .bad-page .ensures), le-ltb _ _ (none .if2 .left)) (recovered .recover .ensures .0 table),
       recovered .recover .ensures .1,
     )
