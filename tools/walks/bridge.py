@@ -150,20 +150,7 @@ module _ «given» where
   stayed = «stays»
 
   module _ (call-name : Name) where
-    abbrev pub function : Fn
-    function = record {
-      lifetimes = «lifetimes»;
-      outlives = [];
-      params = 6;
-      locals =
-          «locals»;
-      body =
-          «body»;
-    }
-
-    module _ {M : Type 1} (𝓤 : URA M) (H : Heap 𝓤) (A : Atoms 𝓤) (W : Given 𝓤 H A) (mem : Memory → SProp 𝓤) (run : Routine → Fun 𝓤)
-        («κ» : Lft) («q» : Share) «vars»
-        «facts» where
+''' + WALKED + '''\
       long : length t ≡ 64
       long = t-length t (tvals t) t-is
 

@@ -284,3 +284,21 @@ use Rattle.store.proofs.Shared.{LentShared, lends-shared, shared-back}
 use Rattle.store.proofs.table.load as load′
 use Rattle.store.proofs.table.store as store′
 '''
+
+# The function that is walked, and what is given for its walk.
+WALKED = '''\
+    abbrev pub function : Fn
+    function = record {
+      lifetimes = «lifetimes»;
+      outlives = [];
+      params = 6;
+      locals =
+          «locals»;
+      body =
+          «body»;
+    }
+
+    module _ {M : Type 1} (𝓤 : URA M) (H : Heap 𝓤) (A : Atoms 𝓤) (W : Given 𝓤 H A) (mem : Memory → SProp 𝓤) (run : Routine → Fun 𝓤)
+        («κ» : Lft) («q» : Share) «vars»
+        «facts» where
+'''
