@@ -3,51 +3,94 @@
  *
  * Visits add signed grams to cells through a write-ahead log, a visit can hand its changes of a cell over to another, and the power may fail at every
  * stored write. The library keeps nothing of its own: it has no global variable, asks for no memory, starts nothing and makes no system call. All that it
- * works on is lent to it for the time of one call:
+ * works on is lent to it for the time of one call, and is worked on where it lies:
  *
- *   ram     CHART_RAM_LENGTH bytes of RAM. They may hold anything before chart_format or chart_open. Between calls the host leaves them alone.
+ *   ram     a chart_ram, 3,040 bytes. It may hold anything before chart_format or chart_open.
  *   log     CHART_LOG_LENGTH bytes that keep their contents without power: the stored log, 4,096 rows of 16 bytes.
  *   charts  CHART_CHARTS_LENGTH bytes that keep their contents without power: the stored charts, 32 pages of 32 bytes.
  *
- * Each buffer is a pointer and its length in bytes. The pointers are not null and the buffers do not overlap; that is the only thing that the caller has to
- * see to. A wrong length is refused (CHART_WRONG_LENGTH) and changes nothing. No other argument and no contents of the buffers can make a call trap, run on
- * or write outside them.
+ * A chart_store says where they are. The host sees to this:
+ *
+ *   - The pointers are not null, and point to as many bytes as the struct's type and the two lengths say.
+ *   - RAM, log, charts and the cells of a format do not overlap.
+ *   - Two calls on the same store do not run at the same time, not even in an interrupt.
+ *   - Between two calls it leaves RAM, log and charts alone. If it does not, each call still ends with an answer, but the charts may be wrong.
+ *
+ * Nothing else is asked: a log or charts of another length are refused (CHART_WRONG_LENGTH), and no argument and no contents of RAM, log and charts can make
+ * a call trap, run on or write elsewhere. A refused call changes no byte, but as CHART_CLOSED, CHART_BAD_ROW and CHART_BAD_PAGE say.
  *
  * A call writes one row (16 bytes) or one page (32 bytes) of the stored memory at a time, in the order that write-ahead logging needs. If the power fails
- * at any point between two of these writes, chart_open brings the store back: every committed change is in the charts, every other one is undone.
+ * at any point between two of these writes, chart_open brings the store back: every committed change is in the charts, every other one is undone. That a row
+ * or a page is stored whole or not at all is the memory's part.
  *
- * The calls are not reentrant on the same buffers. They use the stack only, less than 7 KB as measured on x86-64.
+ * The calls use the stack only. How much of it is measured, not proved (folder `bench`).
  */
 #ifndef CHART_STORE_H
 #define CHART_STORE_H
 
-#include <stddef.h>
 #include <stdint.h>
 
 #ifdef __cplusplus
 extern "C" {
 #endif
 
-#define CHART_RAM_LENGTH 2904u
-#define CHART_LOG_LENGTH 65536u
-#define CHART_CHARTS_LENGTH 1024u
-#define CHART_CELLS 224u /* cells, numbered from 0 */
-#define CHART_PAGES 32u  /* pages, numbered from 0; cell c lies on page c / 7 */
+/* Of this header and its functions. */
+#define CHART_VERSION 1
+
+/* ---- Limits ---- */
+
+#define CHART_LOG_LENGTH 65536u   /* bytes of the stored log */
+#define CHART_CHARTS_LENGTH 1024u /* bytes of the stored charts, and of their copy in RAM */
+#define CHART_ROWS 4096u          /* rows of the stored log, numbered from 1 */
+#define CHART_ROW_LENGTH 16u      /* bytes of a row */
+#define CHART_ROWS_WAITING 64u    /* rows that wait in RAM at most */
+#define CHART_CELLS 224u          /* cells, numbered from 0 */
+#define CHART_PAGES 32u           /* pages, numbered from 0 */
+#define CHART_PAGE_LENGTH 32u     /* bytes of a page */
+#define CHART_CELLS_PER_PAGE 7u   /* cell c lies on page c / 7 */
+#define CHART_VISITS 255u         /* visits of one log, numbered from 1 */
+#define CHART_ACTIVE_VISITS 16u   /* visits that are active at a time */
+#define CHART_SCOPES 64u          /* scopes in use at a time: changes of one cell by one visit that it has not handed over since */
+
+#define CHART_FORMAT_GRAMS 1000000   /* a format takes cells from -1,000,000 to 1,000,000 g */
+#define CHART_STORED_GRAMS 200000000 /* an opening takes stored cells from -200,000,000 to 200,000,000 g */
 
 /* The fuse that never burns: the stored writes of the session are not counted. */
 #define CHART_NO_FUSE 4294967295u
 
+/* ---- What is lent ---- */
+
+/* The store's RAM. What the numbers say is the library's affair; after a format, a power failure and a rejected log or page all of them are 0. */
+typedef struct chart_ram {
+    uint32_t head[8];     /* phase, kind of the fuse, writes left, rows stored, rows waiting, visits begun, visits active, scopes in use */
+    uint16_t visits[32];  /* 16 active visits */
+    uint16_t scopes[448]; /* 64 scopes */
+    uint8_t tail[1024];   /* the rows that wait */
+    uint8_t copy[1024];   /* the charts with every change so far */
+} chart_ram;
+
+/* Where a store's memory is: chart_store s = {&ram, log, CHART_LOG_LENGTH, charts, CHART_CHARTS_LENGTH}; */
+typedef struct chart_store {
+    chart_ram *ram;
+    uint8_t *log;
+    uint64_t log_length; /* CHART_LOG_LENGTH */
+    uint8_t *charts;
+    uint64_t charts_length; /* CHART_CHARTS_LENGTH */
+} chart_store;
+
+/* ---- Answers ---- */
+
 /* What a call answers: bits 32 to 39 have the refusal number, 0 for done; bits 0 to 31 the value, signed. */
 typedef uint64_t chart_answer;
 
-static inline int chart_number(chart_answer a) { return (int)(a >> 32 & 255u); }
-static inline int32_t chart_value(chart_answer a) { return (int32_t)(uint32_t)a; }
+static inline int chart_number(chart_answer a) { return (int)((a >> 32) & 255u); }
+static inline int32_t chart_value(chart_answer a) { return (int32_t)(uint32_t)(a & 4294967295u); }
 
-/* The refusal numbers. A refused call changes nothing, but for CHART_CLOSED, CHART_BAD_ROW and CHART_BAD_PAGE, as they say. */
+/* The refusal numbers. Where no value is named it is 0. */
 enum {
     CHART_DONE = 0,
-    CHART_WRONG_LENGTH = 1,    /* a buffer has another length */
-    CHART_OUT_OF_RANGE = 2,    /* format: a cell beyond 1,000,000 grams either way; the value is the first such cell */
+    CHART_WRONG_LENGTH = 1,    /* log or charts have another length, or a format other than CHART_CELLS cells */
+    CHART_OUT_OF_RANGE = 2,    /* format: a cell beyond 1,000,000 g either way; the value is the first such cell */
     CHART_BAD_ROW = 3,         /* open: a row that is not allowed, or a byte after the end; the value is its row. The store is closed; log and charts are unchanged */
     CHART_BAD_PAGE = 4,        /* open: a page that no log explains; the value is the page. The store is closed; log and charts are unchanged */
     CHART_CLOSED = 5,          /* the store is closed, or the power failed in this call (the fuse burnt) and it is closed now: open it again */
@@ -62,44 +105,97 @@ enum {
     CHART_NO_SUCH_PAGE = 14    /* flush: the page is above 31 */
 };
 
+/* A refusal number in words, for a message. */
+static inline const char *chart_text(int number) {
+    switch (number) {
+    case CHART_DONE: return "done";
+    case CHART_WRONG_LENGTH: return "a buffer has another length";
+    case CHART_OUT_OF_RANGE: return "a cell is beyond 1,000,000 g";
+    case CHART_BAD_ROW: return "a row of the log is not allowed";
+    case CHART_BAD_PAGE: return "a page does not go with the log";
+    case CHART_CLOSED: return "the store is closed";
+    case CHART_VISITS_USED_UP: return "all 255 visits are used up";
+    case CHART_TOO_MANY_ACTIVE: return "16 visits are active";
+    case CHART_NO_ROOM: return "the log has no room";
+    case CHART_NOT_ACTIVE: return "the visit is not active";
+    case CHART_NO_SUCH_CELL: return "there is no such cell";
+    case CHART_SCOPES_USED_UP: return "all 64 scopes are in use";
+    case CHART_SAME_VISIT: return "giver and receiver are the same visit";
+    case CHART_HOLDS_NONE: return "the giver holds no change of the cell";
+    case CHART_NO_SUCH_PAGE: return "there is no such page";
+    default: return "not a number of this store";
+    }
+}
+
+/* ---- The library's functions ---- */
+
+/* They take each array by itself; the calls below take a chart_store, and are what a program uses. */
+
+#define CHART_ARRAYS                                                                                                                                      \
+    uint32_t *head, uint16_t *visits, uint16_t *scopes, uint8_t *tail, uint8_t *copy, uint8_t *log, uint64_t log_length, uint8_t *charts,                 \
+        uint64_t charts_length
+
+chart_answer chart_format_on(CHART_ARRAYS, const int32_t *cells, uint64_t cells_length);
+chart_answer chart_open_on(CHART_ARRAYS, uint32_t fuse);
+chart_answer chart_begin_on(CHART_ARRAYS);
+chart_answer chart_change_on(CHART_ARRAYS, uint16_t visit, uint8_t cell, int16_t amount);
+chart_answer chart_hand_over_on(CHART_ARRAYS, uint16_t giver, uint16_t receiver, uint8_t cell);
+chart_answer chart_commit_on(CHART_ARRAYS, uint16_t visit);
+chart_answer chart_abort_on(CHART_ARRAYS, uint16_t visit);
+chart_answer chart_force_on(CHART_ARRAYS);
+chart_answer chart_flush_on(CHART_ARRAYS, uint8_t page);
+chart_answer chart_read_on(CHART_ARRAYS, uint8_t cell);
+
+#undef CHART_ARRAYS
+
+/* ---- The calls ---- */
+
+#define CHART_OF(s)                                                                                                                                       \
+    (s)->ram->head, (s)->ram->visits, (s)->ram->scopes, (s)->ram->tail, (s)->ram->copy, (s)->log, (s)->log_length, (s)->charts, (s)->charts_length
+
 /* Makes an empty store: no rows, and each cell at its value of `cells` (CHART_CELLS numbers, in grams; cells_length counts numbers). The power must hold
  * until it returns. The store is closed afterwards. Value 0. Refusals 1, 2. */
-chart_answer chart_format(uint8_t *ram, size_t ram_length, uint8_t *log, size_t log_length, uint8_t *charts, size_t charts_length,
-                          const int32_t *cells, size_t cells_length);
+static inline chart_answer chart_format(const chart_store *s, const int32_t *cells, uint64_t cells_length) {
+    return chart_format_on(CHART_OF(s), cells, cells_length);
+}
 
-/* Opens the store: checks log and pages, brings the charts up to the log, undoes what no visit committed, and ends the visits that were active. It comes
- * first after every start, and may come at any time; what was in RAM is lost. The fuse is CHART_NO_FUSE, or the number of stored writes that still land in
- * this session, for tests of a power failure: the write after the last one is not made and the call answers CHART_CLOSED.
+/* Opens the store: checks log and pages, brings the copy of the charts up to the log, undoes what no visit committed, and ends the visits that were active.
+ * It comes first after every start, and may come at any time; what was in RAM is lost. The fuse is CHART_NO_FUSE, or the number of stored writes that still
+ * land in this session, for tests of a power failure: the write after the last one is not made and the call answers CHART_CLOSED.
  * Value: the rows that it wrote. Refusals 1, 3, 4, 5. */
-chart_answer chart_open(uint8_t *ram, size_t ram_length, uint8_t *log, size_t log_length, uint8_t *charts, size_t charts_length, uint32_t fuse);
+static inline chart_answer chart_open(const chart_store *s, uint32_t fuse) { return chart_open_on(CHART_OF(s), fuse); }
 
 /* Begins a visit. Value: its number. Refusals 1, 5, 6, 7, 8. */
-chart_answer chart_begin(uint8_t *ram, size_t ram_length, uint8_t *log, size_t log_length, uint8_t *charts, size_t charts_length);
+static inline chart_answer chart_begin(const chart_store *s) { return chart_begin_on(CHART_OF(s)); }
 
 /* The visit adds `amount` grams to the cell. Value: the row's number. Refusals 1, 5, 9, 10, 11, 8. */
-chart_answer chart_change(uint8_t *ram, size_t ram_length, uint8_t *log, size_t log_length, uint8_t *charts, size_t charts_length, uint16_t visit, uint8_t cell,
-                          int16_t amount);
+static inline chart_answer chart_change(const chart_store *s, uint16_t visit, uint8_t cell, int16_t amount) {
+    return chart_change_on(CHART_OF(s), visit, cell, amount);
+}
 
 /* The receiver becomes the holder of all changes of the cell that the giver holds: they last if the receiver commits. Value: the row's number.
  * Refusals 1, 5, 9, 12, 10, 13, 8. */
-chart_answer chart_hand_over(uint8_t *ram, size_t ram_length, uint8_t *log, size_t log_length, uint8_t *charts, size_t charts_length, uint16_t giver,
-                             uint16_t receiver, uint8_t cell);
+static inline chart_answer chart_hand_over(const chart_store *s, uint16_t giver, uint16_t receiver, uint8_t cell) {
+    return chart_hand_over_on(CHART_OF(s), giver, receiver, cell);
+}
 
 /* Commits the visit: once this has answered done, all changes that it holds last, whatever happens to the power. Value: the row's number.
  * Refusals 1, 5, 9. */
-chart_answer chart_commit(uint8_t *ram, size_t ram_length, uint8_t *log, size_t log_length, uint8_t *charts, size_t charts_length, uint16_t visit);
+static inline chart_answer chart_commit(const chart_store *s, uint16_t visit) { return chart_commit_on(CHART_OF(s), visit); }
 
 /* Takes back all changes that the visit holds, and ends it. Value: the row's number. Refusals 1, 5, 9. */
-chart_answer chart_abort(uint8_t *ram, size_t ram_length, uint8_t *log, size_t log_length, uint8_t *charts, size_t charts_length, uint16_t visit);
+static inline chart_answer chart_abort(const chart_store *s, uint16_t visit) { return chart_abort_on(CHART_OF(s), visit); }
 
 /* Stores the rows that wait in RAM. Value 0. Refusals 1, 5. */
-chart_answer chart_force(uint8_t *ram, size_t ram_length, uint8_t *log, size_t log_length, uint8_t *charts, size_t charts_length);
+static inline chart_answer chart_force(const chart_store *s) { return chart_force_on(CHART_OF(s)); }
 
 /* Stores the page, after the rows that it depends on, so that the next opening has less to do. Value 0. Refusals 1, 5, 14. */
-chart_answer chart_flush(uint8_t *ram, size_t ram_length, uint8_t *log, size_t log_length, uint8_t *charts, size_t charts_length, uint8_t page);
+static inline chart_answer chart_flush(const chart_store *s, uint8_t page) { return chart_flush_on(CHART_OF(s), page); }
 
 /* Reads a cell, with every change so far, committed or not. Value: grams. Refusals 1, 5, 10. */
-chart_answer chart_read(uint8_t *ram, size_t ram_length, uint8_t *log, size_t log_length, uint8_t *charts, size_t charts_length, uint8_t cell);
+static inline chart_answer chart_read(const chart_store *s, uint8_t cell) { return chart_read_on(CHART_OF(s), cell); }
+
+#undef CHART_OF
 
 #ifdef __cplusplus
 }

@@ -2,7 +2,7 @@
 //!
 //!     bench                    times, as ratios
 //!     bench --instructions     instructions, counted by callgrind
-//!     bench --ram              the block of RAM and the deepest stack of the proved store
+//!     bench --ram              the RAM and the deepest stack of the proved store
 //!     bench --once WORKLOAD    one workload, nothing measured: what callgrind is given
 //!
 //! A difference in any answer or stored byte ends the program with exit status 1.

@@ -1,5 +1,5 @@
-//! RAM of the proved store: its block, and the deepest stack of each workload, found by painting the stack
-//! below each call and looking for the lowest word that is not paint any more.
+//! RAM of the proved store: the arrays that it is lent, and the deepest stack of each workload, found by
+//! painting the stack below each call and looking for the lowest word that is not paint any more.
 
 use crate::run::{make_all, run_both};
 use crate::stores::{Call, Charts};
@@ -10,12 +10,10 @@ use std::arch::asm;
 
 /// How far down the stack is painted.
 const PAINTED: usize = 64 * 1024;
-/// The bytes above the paint, for the functions that paint and look.
-const GAP: usize = 256;
 const WORD: usize = size_of::<u64>();
 const PAINT: u64 = 0xA5C3_96E1_5A3C_691E;
 
-/// Prints the deepest stack of each workload, and at the end the block and the deepest of all together.
+/// Prints the deepest stack of each workload, and at the end the arrays and the deepest of all together.
 pub fn report() -> Result<(), String> {
     let mut deepest = 0;
     for (name, workload) in WORKLOADS {
@@ -32,44 +30,43 @@ pub fn report() -> Result<(), String> {
         deepest = deepest.max(depth);
     }
     println!("{deepest:<7}bytes of stack: the deepest");
-    println!("{RAM_LENGTH:<7}bytes of RAM: state, copy and scope table");
+    println!("{RAM_LENGTH:<7}bytes of RAM: head, visits, scopes, tail and copy");
     println!("{:<7}bytes of RAM and deepest stack together", RAM_LENGTH + deepest);
     Ok(())
 }
 
-/// Makes the call on a painted stack. Gives its answer, and how far below this function's frame it wrote:
-/// `GAP` if it stayed above the paint.
+/// Makes the call on a stack that is painted from this function's stack pointer down. Gives its answer, and
+/// how far below the stack pointer it wrote.
 #[inline(never)]
 fn make_painted(store: &mut Proved, call: Call) -> (Answer, usize) {
-    let top = stack_pointer();
-    paint(top - PAINTED, top - GAP);
+    let top = paint();
     let answer = store.make(call);
-    (answer, top - lowest_written(top - PAINTED, top - GAP))
+    (answer, top - lowest_written(top - PAINTED, top))
 }
 
-/// The stack pointer of the calling function.
+/// Paints the stack below the stack pointer of the calling function, and gives that pointer. It is written in
+/// instructions that need no stack themselves, so that no part above the paint is left out of the count.
 #[inline(always)]
-fn stack_pointer() -> usize {
-    let pointer: usize;
-    #[cfg(target_arch = "x86_64")]
+#[cfg(target_arch = "x86_64")]
+fn paint() -> usize {
+    let top: usize;
     unsafe {
-        asm!("mov {}, rsp", out(reg) pointer, options(nomem, nostack, preserves_flags));
+        asm!(
+            "mov {top}, rsp",
+            "mov rcx, {words}",
+            "2:",
+            "sub {top}, 8",
+            "mov [{top}], rax",
+            "dec rcx",
+            "jnz 2b",
+            "mov {top}, rsp",
+            top = out(reg) top,
+            words = const PAINTED / WORD,
+            in("rax") PAINT,
+            out("rcx") _,
+        );
     }
-    #[cfg(target_arch = "aarch64")]
-    unsafe {
-        asm!("mov {}, sp", out(reg) pointer, options(nomem, nostack, preserves_flags));
-    }
-    pointer
-}
-
-/// Paints the stack from `low` up to `high`.
-#[inline(never)]
-fn paint(low: usize, high: usize) {
-    let mut at = low;
-    while at < high {
-        unsafe { (at as *mut u64).write_volatile(PAINT) };
-        at += WORD;
-    }
+    top
 }
 
 /// The lowest word from `low` up to `high` that is not paint, or `high`.

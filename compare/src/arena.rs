@@ -39,6 +39,14 @@ pub struct Arena<'a> {
     cover: &'a mut Cover,
 }
 
+/// What a format, an opening or a call may change of a store's RAM.
+enum RamAfter {
+    Anything,
+    Nothing,
+    /// Every byte is 0: a new store, a rejected one, or a failure of power.
+    Zeros,
+}
+
 /// The answer of a step that calls nothing, or of a call that is left out.
 const NO_CALL: Answer = Answer { number: 0, value: 0 };
 
@@ -161,7 +169,11 @@ impl<'a> Arena<'a> {
 
     fn format(&mut self, cells: &[i32]) -> Outcome<Answer> {
         let (lent, sound) = (self.lent, self.sound);
-        let answer = self.compared(|store| store.format(cells))?;
+        let ram_after = |number| match number {
+            0 => RamAfter::Zeros,
+            _ => RamAfter::Nothing,
+        };
+        let answer = self.compared(|store| store.format(cells), ram_after)?;
         observe::format(self.cover, cells, lent, sound, answer);
         if answer.number == 0 {
             self.sound = true;
@@ -174,7 +186,12 @@ impl<'a> Arena<'a> {
     fn open(&mut self, fuse: Option<u32>) -> Outcome<Answer> {
         let (lent, sound) = (self.lent, self.sound);
         let stored = self.paper.stored_rows();
-        let answer = self.compared(|store| store.open(fuse))?;
+        let ram_after = |number| match number {
+            0 => RamAfter::Anything,
+            1 => RamAfter::Nothing,
+            _ => RamAfter::Zeros,
+        };
+        let answer = self.compared(|store| store.open(fuse), ram_after)?;
         self.sound |= answer.number != 1;
         let before = self.after()?;
         let opening = Opening {
@@ -202,7 +219,13 @@ impl<'a> Arena<'a> {
 
     fn call(&mut self, call: Call) -> Outcome<Answer> {
         let lent = self.lent;
-        let answer = self.compared(|store| store.call(call))?;
+        let was_open = self.paper.open;
+        let ram_after = |number| match number {
+            0 => RamAfter::Anything,
+            5 if was_open => RamAfter::Zeros,
+            _ => RamAfter::Nothing,
+        };
+        let answer = self.compared(|store| store.call(call), ram_after)?;
         let before = self.after()?;
         observe::call(self.cover, call, lent, answer, &before, &self.moment);
         if let (Call::Commit { visit }, 0, Some(demands)) = (call, answer.number, &mut self.demands) {
@@ -264,16 +287,35 @@ impl<'a> Arena<'a> {
         kept.or_else(|text| self.differs(format!("demand 3 is not met: {text}")))
     }
 
-    /// Lets every store make the call and compares answers and bytes.
-    fn compared(&mut self, call: impl Fn(&mut dyn Store) -> Answer) -> Outcome<Answer> {
+    /// Lets every store make the call and compares answers and bytes. `ram_after` says what an answer's
+    /// number leaves of RAM.
+    fn compared(
+        &mut self,
+        call: impl Fn(&mut dyn Store) -> Answer,
+        ram_after: impl Fn(u8) -> RamAfter,
+    ) -> Outcome<Answer> {
         let step = self.steps.len();
         let expected = guarded(step, &mut self.paper, &call)?;
         for other in &mut self.others {
+            let before = other.ram();
             let answer = guarded(step, other.as_mut(), &call)?;
+            let name = other.name();
             if answer != expected {
-                let name = other.name();
                 let (expected, answer) = (report::answer(expected), report::answer(answer));
                 return self.differs(format!("paper answers {expected}, {name} {answer}"));
+            }
+            let after = other.ram();
+            let wrong = match ram_after(answer.number) {
+                RamAfter::Anything => None,
+                RamAfter::Nothing => (0..after.len()).find(|at| after[*at] != before[*at]),
+                RamAfter::Zeros => after.iter().position(|byte| *byte != 0),
+            };
+            if let Some(at) = wrong {
+                let answer = report::answer(answer);
+                let (was, is) = (before[at], after[at]);
+                return self.differs(format!(
+                    "{name} answers {answer}, and byte {at} of its RAM goes from {was} to {is}"
+                ));
             }
         }
         self.compare_bytes()?;

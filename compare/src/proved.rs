@@ -1,32 +1,50 @@
 //! The proved store: the functions of `include/chart_store.h`, from the archive that `rt staticlib embed`
-//! writes, and the block of RAM that they work on; and the proved program `relog`, which `rt check relog`
-//! builds.
+//! writes, and the arrays that they work on; and the proved program `relog`, which `rt check relog` builds.
 
 use crate::prng::Rng;
-use crate::store::{noise, Answer, Buffer, Call, Lengths, Scope, Store, RIGHT};
-use crate::store::{take_over, with_length};
+use crate::store::{noise, with_length, Answer, Buffer, Call, Lengths, Scope, Store, RIGHT};
 use std::io::Write;
 use std::process::{Command, Stdio};
 
-/// The block, as the header gives it: state, scope table, copy.
-pub const RAM_LENGTH: usize = 2_904;
-const TABLE: usize = 1_112;
-const COPY: usize = 1_880;
-/// Where the block counts the entries in use, in eight bytes; the others are unused, whatever their bytes.
-const USED: usize = 32;
-/// Bytes of an entry of the scope table.
-const ENTRY: usize = 12;
+/// Numbers of an entry of the scope table.
+const ENTRY: usize = 7;
 /// No fuse.
 const NO_FUSE: u32 = u32::MAX;
 
-/// The start of every call: block, log and charts, each as a pointer and a length.
+/// The arrays of RAM, as the header's `chart_ram` has them.
+#[repr(C)]
+#[derive(Clone, PartialEq, Eq)]
+pub struct Ram {
+    pub head: [u32; 8],
+    pub visits: [u16; 32],
+    pub scopes: [u16; 448],
+    pub tail: [u8; 1_024],
+    pub copy: [u8; 1_024],
+}
+
+/// Bytes of the arrays of RAM.
+pub const RAM_LENGTH: usize = size_of::<Ram>();
+
+impl Ram {
+    pub const ZERO: Ram =
+        Ram { head: [0; 8], visits: [0; 32], scopes: [0; 448], tail: [0; 1_024], copy: [0; 1_024] };
+
+    /// All of it, byte by byte.
+    fn bytes(&self) -> Vec<u8> {
+        let head = self.head.iter().flat_map(|number| number.to_le_bytes());
+        let tables = self.visits.iter().chain(&self.scopes).flat_map(|number| number.to_le_bytes());
+        head.chain(tables).chain(self.tail).chain(self.copy).collect()
+    }
+}
+
+/// The start of every call: the arrays of RAM, and log and charts, each as a pointer and a length.
 macro_rules! calls {
     ($(fn $name:ident($($argument:ident: $kind:ty),*);)*) => {
         extern "C" {
             $(fn $name(
-                ram: *mut u8, ram_length: usize,
-                log: *mut u8, log_length: usize,
-                charts: *mut u8, charts_length: usize,
+                head: *mut u32, visits: *mut u16, scopes: *mut u16, tail: *mut u8, copy: *mut u8,
+                log: *mut u8, log_length: u64,
+                charts: *mut u8, charts_length: u64,
                 $($argument: $kind),*
             ) -> u64;)*
         }
@@ -34,16 +52,16 @@ macro_rules! calls {
 }
 
 calls! {
-    fn chart_format(cells: *const i32, cells_length: usize);
-    fn chart_open(fuse: u32);
-    fn chart_begin();
-    fn chart_change(visit: u16, cell: u8, amount: i16);
-    fn chart_hand_over(giver: u16, receiver: u16, cell: u8);
-    fn chart_commit(visit: u16);
-    fn chart_abort(visit: u16);
-    fn chart_force();
-    fn chart_flush(page: u8);
-    fn chart_read(cell: u8);
+    fn chart_format_on(cells: *const i32, cells_length: u64);
+    fn chart_open_on(fuse: u32);
+    fn chart_begin_on();
+    fn chart_change_on(visit: u16, cell: u8, amount: i16);
+    fn chart_hand_over_on(giver: u16, receiver: u16, cell: u8);
+    fn chart_commit_on(visit: u16);
+    fn chart_abort_on(visit: u16);
+    fn chart_force_on();
+    fn chart_flush_on(page: u8);
+    fn chart_read_on(cell: u8);
 }
 
 /// Number and value of an answer.
@@ -51,21 +69,26 @@ fn unpacked(answer: u64) -> Answer {
     Answer { number: (answer >> 32) as u8, value: i64::from(answer as u32 as i32) }
 }
 
-/// A proved store with its buffers.
+/// A proved store with what it is lent.
+#[derive(Clone)]
 pub struct Proved {
-    pub ram: Vec<u8>,
+    pub ram: Box<Ram>,
     pub log: Vec<u8>,
     pub charts: Vec<u8>,
 }
 
-/// Calls a function with the store's buffers and these arguments.
+/// Calls a function with the store's arrays and these arguments.
 macro_rules! call {
     ($store:ident.$name:ident($($argument:expr),*)) => {
         unpacked(unsafe {
             $name(
-                $store.ram.as_mut_ptr(), $store.ram.len(),
-                $store.log.as_mut_ptr(), $store.log.len(),
-                $store.charts.as_mut_ptr(), $store.charts.len(),
+                $store.ram.head.as_mut_ptr(),
+                $store.ram.visits.as_mut_ptr(),
+                $store.ram.scopes.as_mut_ptr(),
+                $store.ram.tail.as_mut_ptr(),
+                $store.ram.copy.as_mut_ptr(),
+                $store.log.as_mut_ptr(), $store.log.len() as u64,
+                $store.charts.as_mut_ptr(), $store.charts.len() as u64,
                 $($argument),*
             )
         })
@@ -74,47 +97,47 @@ macro_rules! call {
 
 impl Proved {
     pub fn new() -> Proved {
-        Proved { ram: vec![0; RAM_LENGTH], log: vec![0; RIGHT.log], charts: vec![0; RIGHT.charts] }
+        Proved { ram: Box::new(Ram::ZERO), log: vec![0; RIGHT.log], charts: vec![0; RIGHT.charts] }
     }
 
     pub fn format(&mut self, cells: &[i32]) -> Answer {
-        call!(self.chart_format(cells.as_ptr(), cells.len()))
+        call!(self.chart_format_on(cells.as_ptr(), cells.len() as u64))
     }
 
     pub fn open(&mut self, fuse: Option<u32>) -> Answer {
-        call!(self.chart_open(fuse.unwrap_or(NO_FUSE)))
+        call!(self.chart_open_on(fuse.unwrap_or(NO_FUSE)))
     }
 
     pub fn begin(&mut self) -> Answer {
-        call!(self.chart_begin())
+        call!(self.chart_begin_on())
     }
 
     pub fn change(&mut self, visit: u16, cell: u8, amount: i16) -> Answer {
-        call!(self.chart_change(visit, cell, amount))
+        call!(self.chart_change_on(visit, cell, amount))
     }
 
     pub fn hand_over(&mut self, giver: u16, receiver: u16, cell: u8) -> Answer {
-        call!(self.chart_hand_over(giver, receiver, cell))
+        call!(self.chart_hand_over_on(giver, receiver, cell))
     }
 
     pub fn commit(&mut self, visit: u16) -> Answer {
-        call!(self.chart_commit(visit))
+        call!(self.chart_commit_on(visit))
     }
 
     pub fn abort(&mut self, visit: u16) -> Answer {
-        call!(self.chart_abort(visit))
+        call!(self.chart_abort_on(visit))
     }
 
     pub fn force(&mut self) -> Answer {
-        call!(self.chart_force())
+        call!(self.chart_force_on())
     }
 
     pub fn flush(&mut self, page: u8) -> Answer {
-        call!(self.chart_flush(page))
+        call!(self.chart_flush_on(page))
     }
 
     pub fn read(&mut self, cell: u8) -> Answer {
-        call!(self.chart_read(cell))
+        call!(self.chart_read_on(cell))
     }
 }
 
@@ -124,8 +147,7 @@ impl Default for Proved {
     }
 }
 
-/// The proved store as a `Store` of the comparison. Copy and scope table are parts of the block, so that
-/// a host which lends one of them with another length lends a block of another length.
+/// The proved store as a `Store` of the comparison.
 #[derive(Default)]
 pub struct ProvedStore {
     store: Proved,
@@ -137,38 +159,36 @@ impl ProvedStore {
         ProvedStore::default()
     }
 
-    /// Makes one call with buffers of the lengths that the host was told, as `Host::lend` does.
+    /// Makes one call with buffers of the lengths that the host was told, as `Host::lend` does. A call that
+    /// is lent another length may write to none of them, not even behind the true bytes: that is a panic,
+    /// which the comparison reports.
     fn with_lent(&mut self, call: impl FnOnce(&mut Proved) -> Answer) -> Answer {
         let lengths = std::mem::take(&mut self.lengths);
         if lengths == RIGHT {
             return call(&mut self.store);
         }
-        let mut lent = Proved {
-            ram: with_length(&self.store.ram, block_length(lengths)),
-            log: with_length(&self.store.log, lengths.log),
+        let given = Proved {
+            ram: self.store.ram.clone(),
+            log: with_length(&self.store.log, log_length(lengths)),
             charts: with_length(&self.store.charts, lengths.charts),
         };
+        let mut lent = given.clone();
         let answer = call(&mut lent);
-        take_over(&mut self.store.ram, &lent.ram);
-        take_over(&mut self.store.log, &lent.log);
-        take_over(&mut self.store.charts, &lent.charts);
+        assert!(lent.ram == given.ram && lent.log == given.log && lent.charts == given.charts);
         answer
     }
 }
 
-/// The length of the block for a copy and a table of these lengths, the right one only if both are right.
-fn block_length(lengths: Lengths) -> usize {
-    let length = COPY - ENTRY * RIGHT.scopes + ENTRY * lengths.scopes + lengths.copy;
-    let right = lengths.copy == RIGHT.copy && lengths.scopes == RIGHT.scopes;
-    if length == RAM_LENGTH && !right {
-        length + 1
+/// The length of the log for these lengths. The copy and the scope table have their lengths by their types,
+/// so that C cannot lend them with others: the log then misses its length by as much in their place.
+fn log_length(lengths: Lengths) -> usize {
+    if lengths.log != RIGHT.log || lengths.charts != RIGHT.charts {
+        lengths.log
+    } else if lengths.copy != RIGHT.copy {
+        RIGHT.log - RIGHT.copy + lengths.copy
     } else {
-        length
+        RIGHT.log - RIGHT.scopes + lengths.scopes
     }
-}
-
-fn word(bytes: &[u8], at: usize) -> u16 {
-    u16::from_le_bytes([bytes[at], bytes[at + 1]])
 }
 
 impl Store for ProvedStore {
@@ -206,22 +226,24 @@ impl Store for ProvedStore {
     }
 
     fn copy(&self) -> &[u8] {
-        &self.store.ram[COPY..]
+        &self.store.ram.copy
     }
 
     fn scopes(&self) -> Vec<Scope> {
-        let entry = |bytes: &[u8]| Scope {
-            maker: word(bytes, 0),
-            holder: word(bytes, 2),
-            first: word(bytes, 4),
-            last: word(bytes, 6),
-            count: word(bytes, 8),
-            cell: bytes[10],
-            handed: bytes[11] != 0,
+        let entry = |numbers: &[u16]| Scope {
+            maker: numbers[0],
+            holder: numbers[1],
+            cell: numbers[2] as u8,
+            first: numbers[3],
+            last: numbers[4],
+            handed: numbers[5] != 0,
+            count: numbers[6],
         };
-        let used = (0..8).rev().fold(0, |n, i| n << 8 | usize::from(self.store.ram[USED + i]));
-        let in_use = self.store.ram[TABLE..COPY].chunks_exact(ENTRY).take(used).map(entry);
-        with_length(&in_use.collect::<Vec<_>>(), RIGHT.scopes)
+        self.store.ram.scopes.chunks_exact(ENTRY).map(entry).collect()
+    }
+
+    fn ram(&self) -> Vec<u8> {
+        self.store.ram.bytes()
     }
 
     fn log_mut(&mut self) -> &mut [u8] {
@@ -236,21 +258,22 @@ impl Store for ProvedStore {
         self.lengths.set(buffer, length);
     }
 
-    /// Any bytes at all; in most cases with counters within their bounds, so that calls go far.
+    /// Any numbers at all; in most cases with counters within their bounds, so that calls go far.
     fn scramble(&mut self, seed: u64) {
         let rng = &mut Rng::new(seed ^ 1);
-        rng.fill(&mut self.store.ram[..COPY]);
-        noise(seed, &mut self.store.ram[COPY..]);
+        let ram = &mut self.store.ram;
+        ram.head.iter_mut().for_each(|number| *number = rng.draw() as u32);
+        ram.visits.iter_mut().for_each(|number| *number = rng.draw() as u16);
+        ram.scopes.iter_mut().for_each(|number| *number = rng.draw() as u16);
+        rng.fill(&mut ram.tail);
+        noise(seed, &mut ram.copy);
         if rng.chance(5, 6) {
-            let mut put = |at: usize, bound: usize| {
-                let number = rng.below(bound + 1) as u64;
-                self.store.ram[at..at + 8].copy_from_slice(&number.to_le_bytes());
-            };
-            put(8, 4_096);
-            put(16, 64);
-            put(24, 16);
-            put(32, 64);
-            self.store.ram[0] = 1;
+            let [phase, _, _, stored, waiting, _, active, used] = &mut ram.head;
+            *phase = 1;
+            *stored = rng.below(4_097) as u32;
+            *waiting = rng.below(65) as u32;
+            *active = rng.below(17) as u32;
+            *used = rng.below(65) as u32;
         }
     }
 }

@@ -1,5 +1,5 @@
 /*
- * The chart store from C: a day at the scale, with a power failure in it. Each answer is printed and checked; the program returns 1 at the first that differs.
+ * The chart store from C: a day at the scale, with a power failure in it. Each answer is printed and checked; the program returns 1 if any of them differs.
  */
 #include <stdio.h>
 #include <string.h>
@@ -10,66 +10,88 @@
 static uint8_t stored_log[CHART_LOG_LENGTH];
 static uint8_t stored_charts[CHART_CHARTS_LENGTH];
 
-static uint8_t ram[CHART_RAM_LENGTH];
+static chart_ram ram;
 
 /* What every call is lent. */
-#define STORE ram, sizeof ram, stored_log, sizeof stored_log, stored_charts, sizeof stored_charts
+static const chart_store store = {&ram, stored_log, sizeof stored_log, stored_charts, sizeof stored_charts};
 
 static int failures = 0;
 
 static void expect(const char *what, chart_answer a, int number, int32_t value) {
     int same = chart_number(a) == number && chart_value(a) == value;
-    printf("%-44s %2d %6d%s\n", what, chart_number(a), (int)chart_value(a), same ? "" : "   <- not as expected");
+    printf("%-40s %2d %6d  %s%s\n", what, chart_number(a), (int)chart_value(a), chart_text(chart_number(a)), same ? "" : "   <- not as expected");
     failures += !same;
+}
+
+/* The refusal is as expected, and no byte of RAM, log and charts has changed. */
+static void expect_unchanged(const char *what, const chart_store *s, uint8_t cell, int number) {
+    static chart_ram ram_before;
+    static uint8_t log_before[CHART_LOG_LENGTH], charts_before[CHART_CHARTS_LENGTH];
+    ram_before = ram;
+    memcpy(log_before, stored_log, sizeof log_before);
+    memcpy(charts_before, stored_charts, sizeof charts_before);
+    expect(what, chart_read(s, cell), number, 0);
+    if (memcmp(&ram_before, &ram, sizeof ram) != 0 || memcmp(log_before, stored_log, sizeof log_before) != 0 ||
+        memcmp(charts_before, stored_charts, sizeof charts_before) != 0) {
+        puts("   <- a refusal changed a byte");
+        failures++;
+    }
 }
 
 int main(void) {
     int32_t cells[CHART_CELLS] = {0};
+    const chart_store *s = &store;
+    chart_store short_log = store, no_charts = store;
+    static const chart_ram zero = {{0}, {0}, {0}, {0}, {0}};
     cells[7] = 70000;
 
-    puts("call                                      number  value");
-    expect("format, cell 7 at 70,000 g", chart_format(STORE, cells, CHART_CELLS), CHART_DONE, 0);
-    expect("begin before any opening", chart_begin(STORE), CHART_CLOSED, 0);
-    expect("open, no fuse", chart_open(STORE, CHART_NO_FUSE), CHART_DONE, 0);
+    puts("call                                 number  value");
+    expect("format, cell 7 at 70,000 g", chart_format(s, cells, CHART_CELLS), CHART_DONE, 0);
+    expect("begin before any opening", chart_begin(s), CHART_CLOSED, 0);
+    expect("open, no fuse", chart_open(s, CHART_NO_FUSE), CHART_DONE, 0);
 
-    expect("begin: the person's visit", chart_begin(STORE), CHART_DONE, 1);
-    expect("begin: the dietitian's visit", chart_begin(STORE), CHART_DONE, 2);
-    expect("visit 1 weighs 350 g less in cell 7", chart_change(STORE, 1, 7, -350), CHART_DONE, 3);
-    expect("read cell 7", chart_read(STORE, 7), CHART_DONE, 69650);
-    expect("visit 1 hands cell 7 over to visit 2", chart_hand_over(STORE, 1, 2, 7), CHART_DONE, 4);
-    expect("visit 1 adds 90 g to cell 8", chart_change(STORE, 1, 8, 90), CHART_DONE, 5);
-    expect("visit 2 commits: cell 7 lasts", chart_commit(STORE, 2), CHART_DONE, 6);
-    expect("flush the page of cell 8", chart_flush(STORE, 8 / 7), CHART_DONE, 0);
+    expect("begin: the person's visit", chart_begin(s), CHART_DONE, 1);
+    expect("begin: the dietitian's visit", chart_begin(s), CHART_DONE, 2);
+    expect("visit 1 weighs 350 g less in cell 7", chart_change(s, 1, 7, -350), CHART_DONE, 3);
+    expect("read cell 7", chart_read(s, 7), CHART_DONE, 69650);
+    expect("visit 1 hands cell 7 over to visit 2", chart_hand_over(s, 1, 2, 7), CHART_DONE, 4);
+    expect("visit 1 adds 90 g to cell 8", chart_change(s, 1, 8, 90), CHART_DONE, 5);
+    expect("visit 2 commits: cell 7 lasts", chart_commit(s, 2), CHART_DONE, 6);
+    expect("flush the page of cell 8", chart_flush(s, 8 / CHART_CELLS_PER_PAGE), CHART_DONE, 0);
 
     /* The plug is pulled: RAM is lost, log and charts stay as they are. */
-    memset(ram, 0xA5, sizeof ram);
-    expect("open: cell 8 undone, visit 1 ended", chart_open(STORE, CHART_NO_FUSE), CHART_DONE, 2);
-    expect("read cell 7", chart_read(STORE, 7), CHART_DONE, 69650);
-    expect("read cell 8", chart_read(STORE, 8), CHART_DONE, 0);
+    memset(&ram, 0xA5, sizeof ram);
+    expect("open: cell 8 undone, visit 1 ended", chart_open(s, CHART_NO_FUSE), CHART_DONE, 2);
+    expect("read cell 7", chart_read(s, 7), CHART_DONE, 69650);
+    expect("read cell 8", chart_read(s, 8), CHART_DONE, 0);
 
     /* The plug is pulled in the middle of a commit: of its rows only two land. */
-    expect("open, two writes land", chart_open(STORE, 2), CHART_DONE, 0);
-    expect("begin", chart_begin(STORE), CHART_DONE, 3);
-    expect("visit 3 weighs 120 g more in cell 7", chart_change(STORE, 3, 7, 120), CHART_DONE, 10);
-    expect("visit 3 commits: the power fails", chart_commit(STORE, 3), CHART_CLOSED, 0);
-    expect("read cell 7: closed", chart_read(STORE, 7), CHART_CLOSED, 0);
-    expect("open: the weighing is undone", chart_open(STORE, CHART_NO_FUSE), CHART_DONE, 2);
-    expect("read cell 7", chart_read(STORE, 7), CHART_DONE, 69650);
+    expect("open, two writes land", chart_open(s, 2), CHART_DONE, 0);
+    expect("begin", chart_begin(s), CHART_DONE, 3);
+    expect("visit 3 weighs 120 g more in cell 7", chart_change(s, 3, 7, 120), CHART_DONE, 10);
+    expect("visit 3 commits: the power fails", chart_commit(s, 3), CHART_CLOSED, 0);
+    if (memcmp(&ram, &zero, sizeof ram) != 0) {
+        puts("   <- the power failure left something in RAM");
+        failures++;
+    }
+    expect("read cell 7: closed", chart_read(s, 7), CHART_CLOSED, 0);
+    expect("open: the weighing is undone", chart_open(s, CHART_NO_FUSE), CHART_DONE, 2);
+    expect("read cell 7", chart_read(s, 7), CHART_DONE, 69650);
 
     /* Refusals change nothing. */
-    expect("change by a visit that ended", chart_change(STORE, 3, 7, 1), CHART_NOT_ACTIVE, 0);
-    expect("visit 259 is not visit 3", chart_abort(STORE, 259), CHART_NOT_ACTIVE, 0);
-    expect("read cell 224", chart_read(STORE, 224), CHART_NO_SUCH_CELL, 0);
-    expect("flush page 32", chart_flush(STORE, 32), CHART_NO_SUCH_PAGE, 0);
-    expect("force", chart_force(STORE), CHART_DONE, 0);
-    expect("a RAM block one byte short", chart_read(ram, sizeof ram - 1, stored_log, sizeof stored_log, stored_charts, sizeof stored_charts, 7),
-           CHART_WRONG_LENGTH, 0);
-    expect("a log one row short", chart_read(ram, sizeof ram, stored_log, sizeof stored_log - 16, stored_charts, sizeof stored_charts, 7),
-           CHART_WRONG_LENGTH, 0);
-    cells[5] = 1000001;
-    expect("format, cell 5 out of range", chart_format(STORE, cells, CHART_CELLS), CHART_OUT_OF_RANGE, 5);
-    stored_log[16 * 2 + 1] ^= 1;
-    expect("open a log whose row 3 was altered", chart_open(STORE, CHART_NO_FUSE), CHART_BAD_ROW, 3);
+    expect("change by a visit that ended", chart_change(s, 3, 7, 1), CHART_NOT_ACTIVE, 0);
+    expect("visit 259 is not visit 3", chart_abort(s, 259), CHART_NOT_ACTIVE, 0);
+    expect("flush page 32", chart_flush(s, CHART_PAGES), CHART_NO_SUCH_PAGE, 0);
+    expect("force", chart_force(s), CHART_DONE, 0);
+    short_log.log_length -= CHART_ROW_LENGTH;
+    no_charts.charts_length = 0;
+    expect_unchanged("read cell 224", s, CHART_CELLS, CHART_NO_SUCH_CELL);
+    expect_unchanged("a log one row short", &short_log, 7, CHART_WRONG_LENGTH);
+    expect_unchanged("no charts", &no_charts, 7, CHART_WRONG_LENGTH);
+    cells[5] = CHART_FORMAT_GRAMS + 1;
+    expect("format, cell 5 out of range", chart_format(s, cells, CHART_CELLS), CHART_OUT_OF_RANGE, 5);
+    stored_log[CHART_ROW_LENGTH * 2 + 1] ^= 1;
+    expect("open a log whose row 3 was altered", chart_open(s, CHART_NO_FUSE), CHART_BAD_ROW, 3);
 
     puts(failures == 0 ? "all as expected" : "NOT all as expected");
     return failures != 0;

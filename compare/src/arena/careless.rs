@@ -51,12 +51,14 @@ struct Bytes {
     charts: Vec<u8>,
     copy: Vec<u8>,
     scopes: Vec<Scope>,
+    ram: Vec<u8>,
 }
 
 impl Bytes {
     /// Whether this is what a failure of power leaves.
     fn is_closed_after(&self, before: &Bytes) -> bool {
         self.charts == before.charts
+            && self.ram.iter().all(|byte| *byte == 0)
             && self.copy.iter().all(|byte| *byte == 0)
             && self.scopes.iter().all(|scope| *scope == Scope::default())
     }
@@ -68,6 +70,7 @@ fn bytes_of(store: &dyn Store) -> Bytes {
         charts: store.charts().to_vec(),
         copy: store.copy().to_vec(),
         scopes: store.scopes(),
+        ram: store.ram(),
     }
 }
 

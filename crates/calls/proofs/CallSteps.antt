@@ -63,3 +63,12 @@ module _ (x : Core) where
       ≡ acted x (Call.flush p)
   unfolding acted
   flushes p m j g a b e = rw (e, b, a)
+
+  pub forces : (j : Journal) → j ≡ forced (x .ram .journal)
+      → record { ram = record { journal = j; copy = x .ram .copy }; charts = x .charts; tables = x .tables; scopes = x .scopes } ≡ acted x Call.force
+  unfolding acted
+  forces j e = rw e
+
+  pub reads : (c : ℕ) → x ≡ acted x (Call.read c)
+  unfolding acted
+  reads c = refl

@@ -1,7 +1,9 @@
-// Document 01's table of refusals, from begin on: each call's checks in their order, by the tables and the number of rows. The answer is that of the first
-// check that applies, or `Done` where none does.
+// Document 01's table of refusals, from begin on: the checks that are a call's own, in their order, by the tables and the number of rows. The answer is
+// that of the first check that applies, or `Done` where none does.
 ghost use mathlib.Core.Path.{_≡_};
 ghost use mathlib.Core.Bool.{not};
+ghost use Prim.Native.Nat.{ℕ};
+ghost use mathlib.Core.List.{List};
 ghost use lib.Dec.{ltb};
 ghost use lib.IntN.{ℤ};
 ghost use lib.ListN.{length};
@@ -9,22 +11,20 @@ ghost use Rattle.book.specs.Book.{_else_};
 ghost use Rattle.book.specs.Calls.{Call};
 ghost use Rattle.book.specs.Limits.{pageLimit};
 ghost use Rattle.book.specs.Rows.{isCell};
-ghost use Rattle.tables_model.specs.Visits.{InRange, isListed};
-ghost use Rattle.tables_model.specs.Rows.{Ready, index};
+ghost use Rattle.tables_model.specs.Visits.{tablesIn, Listed, isListed};
+ghost use Rattle.tables_model.specs.Rows.{Ready, Ranged, index};
 ghost use Rattle.state.specs.Answers.{numberAndValue, refusedBy};
-ghost use Rattle.state.specs.Requests.{callOf};
 ghost use Rattle.calls_model.specs.Refusals.{refusalBy};
 use rows::Cell;
 use rows::Visit;
 use rows::ranges::is_cell;
 use state::answers::Answer;
-use state::requests::Request;
 use tables::lookup::holds_cell;
 use tables::rules::has_entry;
 use tables::rules::has_room;
 use tables::visits::is_listed;
 use tables_model::CellSet;
-use tables_model::Tables;
+use tables_model::Counts;
 
 // Document 01: 255 visits, 16 of them active; 32 pages.
 const VISITS: u16 = 255;
@@ -33,9 +33,9 @@ const ACTIVE: usize = 16;
 
 const PAGES: u8 = 32;
 
-fn refuse_begin(t: Tables, scopes: &[u16], rows: usize) -> Answer
-    requires { ⌜ Ready t (length (now scopes)) ⌝ }
-    ensures { λ r. ⌜ numberAndValue r ≡ refusedBy (refusalBy (index t (now (scopes .entry))) rows Call.begin) ⌝ }
+pub(crate) fn refuse_begin(t: Counts, scopes: &[u16], rows: usize) -> Answer
+    requires { ⌜ Ranged t (length (now scopes)) ⌝ }
+    ensures { λ r. ⌜ ((vs : List ℕ) → numberAndValue r ≡ refusedBy (refusalBy (index t vs (now (scopes .entry))) rows Call.begin)) ⌝ }
 {
     if VISITS <= t.begun {
         return Answer::VisitsUsedUp;
@@ -50,11 +50,18 @@ fn refuse_begin(t: Tables, scopes: &[u16], rows: usize) -> Answer
     }
 }
 
-fn refuse_change(t: Tables, scopes: &[u16], rows: usize, v: Visit, c: Cell) -> Answer
-    requires { ⌜ Ready t (length (now scopes)) ⌝ }
-    ensures { λ r. ⌜ ((a : ℤ) → numberAndValue r ≡ refusedBy (refusalBy (index t (now (scopes .entry))) rows (Call.change (v .0) (c .0) a))) ⌝ }
+pub(crate) fn refuse_change(
+    t: Counts,
+    visits: &[u16],
+    scopes: &[u16],
+    rows: usize,
+    v: Visit,
+    c: Cell,
+) -> Answer
+    requires { ⌜ Ready t (length (now visits)) (length (now scopes)) ⌝ }
+    ensures { λ r. ⌜ ((a : ℤ) → numberAndValue r ≡ refusedBy (refusalBy (index t (now (visits .entry)) (now (scopes .entry))) rows (Call.change (v .0) (c .0) a))) ⌝ }
 {
-    if !is_listed(t, v) {
+    if !is_listed(t, visits, v) {
         return Answer::NotActive;
     }
     if !is_cell(c) {
@@ -70,14 +77,22 @@ fn refuse_change(t: Tables, scopes: &[u16], rows: usize, v: Visit, c: Cell) -> A
     }
 }
 
-fn refuse_hand_over(t: Tables, scopes: &[u16], rows: usize, g: Visit, r: Visit, c: Cell) -> Answer
-    requires { ⌜ Ready t (length (now scopes)) ⌝ }
-    ensures { λ x. ⌜ numberAndValue x ≡ refusedBy (refusalBy (index t (now (scopes .entry))) rows (Call.handOver (g .0) (r .0) (c .0))) ⌝ }
+pub(crate) fn refuse_hand_over(
+    t: Counts,
+    visits: &[u16],
+    scopes: &[u16],
+    rows: usize,
+    g: Visit,
+    r: Visit,
+    c: Cell,
+) -> Answer
+    requires { ⌜ Ready t (length (now visits)) (length (now scopes)) ⌝ }
+    ensures { λ x. ⌜ numberAndValue x ≡ refusedBy (refusalBy (index t (now (visits .entry)) (now (scopes .entry))) rows (Call.handOver (g .0) (r .0) (c .0))) ⌝ }
 {
-    if !is_listed(t, g) {
+    if !is_listed(t, visits, g) {
         return Answer::NotActive;
     }
-    if !is_listed(t, r) {
+    if !is_listed(t, visits, r) {
         return Answer::NotActive;
     }
     if g.0 == r.0 {
@@ -97,18 +112,18 @@ fn refuse_hand_over(t: Tables, scopes: &[u16], rows: usize, g: Visit, r: Visit, 
 }
 
 // Commit and abort: the visit is active.
-fn refuse_end(t: Tables, v: Visit) -> Answer
-    requires { ⌜ InRange t ⌝ }
-    ensures { λ r. ⌜ numberAndValue r ≡ refusedBy ((9, not (isListed t (v .0))) else 0) ⌝ }
+pub(crate) fn refuse_end(t: Counts, visits: &[u16], v: Visit) -> Answer
+    requires { ⌜ Listed (length (now visits)) (t .count) ⌝ }
+    ensures { λ r. ⌜ numberAndValue r ≡ refusedBy ((9, not (isListed (tablesIn t (now (visits .entry))) (v .0))) else 0) ⌝ }
 {
-    if is_listed(t, v) {
+    if is_listed(t, visits, v) {
         Answer::Done
     } else {
         Answer::NotActive
     }
 }
 
-fn refuse_flush(page: u8) -> Answer
+pub(crate) fn refuse_flush(page: u8) -> Answer
     ensures { λ r. ⌜ numberAndValue r ≡ refusedBy ((14, not (ltb page pageLimit)) else 0) ⌝ }
 {
     if page < PAGES {
@@ -118,29 +133,12 @@ fn refuse_flush(page: u8) -> Answer
     }
 }
 
-fn refuse_read(c: Cell) -> Answer
+pub(crate) fn refuse_read(c: Cell) -> Answer
     ensures { λ r. ⌜ numberAndValue r ≡ refusedBy ((10, not (isCell (c .0))) else 0) ⌝ }
 {
     if is_cell(c) {
         Answer::Done
     } else {
         Answer::NoSuchCell
-    }
-}
-
-// What the request is refused by, after so many rows.
-pub fn refuse(t: Tables, scopes: &[u16], rows: usize, request: Request) -> Answer
-    requires { ⌜ Ready t (length (now scopes)) ⌝ }
-    ensures { λ r. ⌜ numberAndValue r ≡ refusedBy (refusalBy (index t (now (scopes .entry))) rows (callOf request)) ⌝ }
-{
-    match request {
-        Request::Begin => refuse_begin(t, scopes, rows),
-        Request::Change(v, c, _) => refuse_change(t, scopes, rows, v, c),
-        Request::HandOver(g, r, c) => refuse_hand_over(t, scopes, rows, g, r, c),
-        Request::Commit(v) => refuse_end(t, v),
-        Request::Abort(v) => refuse_end(t, v),
-        Request::Force => Answer::Done,
-        Request::Flush(p) => refuse_flush(p),
-        Request::Read(c) => refuse_read(c),
     }
 }

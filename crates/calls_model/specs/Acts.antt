@@ -1,7 +1,7 @@
 -- What an accepted call does to journal, copy, charts and tables.
 use Prim.Native.Nat.{ℕ, suc, _+_, _-_}
 use mathlib.Core.Path.{_≡_}
-use mathlib.Core.Bool.{cond}
+use mathlib.Core.Bool.{true, cond}
 use mathlib.Core.List.{List}
 use lib.ListN.{length}
 use lib.IntN.{ℤ, pos}
@@ -11,12 +11,14 @@ use Rattle.book.specs.Scopes.{Scope}
 use Rattle.book.specs.Ledger.{only}
 use Rattle.book.specs.Calls.{Call, Return, theVisit, theRow, theCell, zeroValue, returns}
 use Rattle.book.specs.Pages.{pageAt, pageOf, cellOf}
+use Rattle.tables_model.specs.declared.Counts.{Counts}
 use Rattle.tables_model.specs.declared.Tables.{Tables}
 use Rattle.tables_model.specs.Entries.{entries}
 use Rattle.tables_model.specs.Rows.{Ready, index}
 use Rattle.tables_model.specs.declared.Whom.the-variants.{One}
-use Rattle.tables_model.specs.Visits.{withBegun, withEnded, withUsed}
+use Rattle.tables_model.specs.Visits.{tablesIn, withBegun, withEnded, withUsed}
 use Rattle.tables_model.specs.Table.{Scopes, scopesChanged, scopesHanded, scopesEnded}
+use Rattle.state.specs.World.{isOpenPhase}
 use Rattle.journal.specs.declared.Control.{Control}
 use Rattle.journal.specs.Journal.{Journal, forced, forcedUpTo, Paged, paged}
 use Rattle.undo.specs.Writing.{Ram, ram, Fits, rowCount, written}
@@ -30,8 +32,8 @@ pub record Core : Type 0 where
   pub tables : Tables
   pub scopes : List Scope
 
-abbrev pub core : Control → Tables → List ℕ → List ℕ → List ℕ → List ℕ → List ℕ → Core
-core c t log charts copy tail scopes = record { ram = ram c log tail copy; charts = charts; tables = t; scopes = entries scopes }
+abbrev pub core : Control → Counts → List ℕ → List ℕ → List ℕ → List ℕ → List ℕ → List ℕ → Core
+core c t visits log charts copy tail scopes = record { ram = ram c log tail copy; charts = charts; tables = tablesIn t visits; scopes = entries scopes }
 
 abbrev pub withRam : Core → Ram → Core
 withRam x m = record { ram = m; charts = x .charts; tables = x .tables; scopes = x .scopes }
@@ -101,8 +103,9 @@ valueBy x y k = valueFrom (x .tables .begun) (rowCount (y .ram .journal)) (x .ra
 
 -- ── What the functions ask ────────────────────────────────────────────────────────────────────────────────────────────
 
--- the call is accepted, and lengths and counters are right
-pub record Accepts (c : Control) (t : Tables) (log copy tail : ℕ) (scopes : List ℕ) (k : Call) : Type 0 where
+-- the store is open, the call is accepted, and lengths and counters are right
+pub record Accepts (c : Control) (t : Counts) (log copy tail : ℕ) (visits scopes : List ℕ) (k : Call) : Type 0 where
   pub fits : Fits c log tail copy
-  pub ready : Ready t (length scopes)
-  pub free : refusalBy (index t scopes) (c .stored + c .waiting) k ≡ 0
+  pub ready : Ready t (length visits) (length scopes)
+  pub running : isOpenPhase (c .phase) ≡ true
+  pub free : refusalBy (index t visits scopes) (c .stored + c .waiting) k ≡ 0

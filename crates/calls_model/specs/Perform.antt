@@ -7,17 +7,23 @@ use lib.IntN.{ℤ, pos}
 use lib.Dec.{leb}
 use Rattle.book.specs.Limits.{logLength, chartsLength, rowLimit, tailLimit, activeLimit, scopeLimit}
 use Rattle.book.specs.Scopes.{Scope as Entry}
-use Rattle.book.specs.Calls.{Call}
+use Rattle.book.specs.Calls.{Call, returns}
 use Rattle.book.specs.Book.{_else_}
+use Rattle.tables_model.specs.declared.Counts.{Counts}
 use Rattle.tables_model.specs.declared.Tables.{Tables}
-use Rattle.tables_model.specs.Entries.{scopeIn, scopeOf, entries}
+use Rattle.tables_model.specs.Entries.{scopeIn, scopeOf, flatLength}
+use Rattle.tables_model.specs.Visits.{visitsLength}
 use Rattle.state.specs.declared.ram.State.{State}
-use Rattle.state.specs.Answers.{numberAndValue}
-use Rattle.state.specs.World.{World, world, rightLengths, isOpenPhase, cleared}
+use Rattle.state.specs.declared.answers.Answer.{Answer}
+use Rattle.state.specs.declared.answers.Answer.the-variants as Answer
+use Rattle.state.specs.declared.ram.Phase.the-variants.{Open, Closed}
+use Rattle.state.specs.Answers.{refusal, caseOf, doneCase, HasCase}
+use Rattle.state.specs.World.{World, rightLengths, isOpenPhase, cleared}
 use Rattle.state.specs.Contracts.{Answered, answered}
 use Rattle.journal.specs.declared.Control.{Control}
+use Rattle.journal.specs.declared.Outcome.{Outcome}
+use Rattle.journal.specs.Outcomes.{outcome, Bounded, Zeroed}
 use Rattle.undo.specs.Writing.{isRunning}
-use Rattle.calls_model.specs.declared.Done.{Done}
 use Rattle.calls_model.specs.Refusals.{refusalBy}
 use Rattle.calls_model.specs.Acts.{Core, acted, valueBy}
 
@@ -74,23 +80,42 @@ numberOf w k = (1, not (rightLengths w)) else numberBy (controlIn (w .state)) (w
 unfoldable pub performed : World → Call → Answered
 performed w k = decided w k (numberOf w k)
 
--- ── What the functions are handed, leave and ask ──────────────────────────────────────────────────────────────────────
-
--- the state by where the journal stands, the tables and the tail
-abbrev pub stateAfter : Control → Tables → List ℕ → State
-stateAfter c t tail = record { phase = c .phase; fuse = c .fuse; stored = c .stored; waiting = c .waiting; tables = t; tail = tail }
-
--- what the code's struct says, with the buffers, the tail and the flat table beside it
-abbrev pub doneOf : Done → List ℕ → List ℕ → List ℕ → List ℕ → List ℕ → Answered
-doneOf r log charts copy tail flat =
-    record { answer = numberAndValue (r .answer); world = world (stateAfter (r .control) (r .tables) tail) log charts copy (map scopeOf (entries flat)) }
+-- ── What the functions ask and leave ──────────────────────────────────────────────────────────────────────────────────
 
 -- a call that no check refuses
 abbrev pub accepted : Core → Call → Answered
 accepted x k = let y : Core = acted x k in settled y (valueBy x y k)
+
+-- what such a call comes to on the lent arrays
+pub record Accepted (x : Core) (k : Call) (r : Outcome) (log charts copy tail visits flat : List ℕ) : Type 0 where
+  pub is : outcome r log charts copy tail visits flat ≡ accepted x k
+  pub case : HasCase (doneCase (returns k)) (r .answer)
+  -- the power failed: every number of RAM is 0
+  pub zero : caseOf (r .answer) ≡ refusal → Zeroed r copy tail visits flat
+  pub bounded : Bounded (r .control) (r .counts)
 
 -- the lent bytes have their lengths
 pub record Lent (log charts copy : ℕ) : Type 0 where
   pub log-long : log ≡ logLength
   pub charts-long : charts ≡ chartsLength
   pub copy-long : copy ≡ chartsLength
+
+-- the flat tables have theirs
+pub record Flat (visits scopes : ℕ) : Type 0 where
+  pub visits-long : visits ≡ visitsLength
+  pub scopes-long : scopes ≡ flatLength
+
+-- the power held in an accepted call: it leaves what its work left
+pub record Held (c : Control) (t : Counts) (a : Answer) (copy tail visits flat : List ℕ) (r : Outcome) (copy′ tail′ visits′ flat′ : List ℕ) : Type 0 where
+  pub running : c .phase ≡ Open
+  pub is : r ≡ record { answer = a; control = c; counts = t }
+  pub copy-same : copy′ ≡ copy
+  pub tail-same : tail′ ≡ tail
+  pub visits-same : visits′ ≡ visits
+  pub flat-same : flat′ ≡ flat
+
+-- it failed: every number of RAM is 0
+pub record Failed (c : Control) (r : Outcome) (copy tail visits flat : List ℕ) : Type 0 where
+  pub stopped : c .phase ≡ Closed
+  pub answer : r .answer ≡ Answer.Closed
+  pub zero : Zeroed r copy tail visits flat

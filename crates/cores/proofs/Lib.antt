@@ -1,3 +1,4 @@
 mod Crossings
+mod Lengths
 mod Openings
 mod Performing

@@ -7,7 +7,9 @@ use lib.ListN.{length, replicate}
 use Rattle.tables_model.specs.Entries.{scopeOf}
 use Rattle.book.specs.Limits.{scopeLimit}
 use Rattle.book.specs.Scopes.{unused}
+use Rattle.tables_model.specs.declared.Counts.{Counts}
 use Rattle.tables_model.specs.declared.Scope.{Scope}
+use Rattle.tables_model.specs.declared.Tables.{Tables}
 use Rattle.state.specs.World.{World}
 use Rattle.state.specs.Contracts.{Returned}
 
@@ -17,6 +19,10 @@ zeroScope = scopeOf unused
 
 abbrev pub blanks : List Scope
 blanks = replicate scopeLimit zeroScope
+
+-- the counters of the tables
+abbrev pub countsIn : Tables → Counts
+countsIn t = record { begun = t .begun; count = t .count; used = t .used }
 
 -- The promise P of a call as its core keeps it. The core has the number n of entries that are lent, and the table by value, of 64 entries.
 -- At 64 entries the two tables are the lent one before and after; at any other number the lent table stays.

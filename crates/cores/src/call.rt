@@ -1,4 +1,4 @@
-// The calls of an open store: every check in document 01's order, the lengths first, on a flat copy of the table; then the call.
+// The calls of an open store: every check in document 01's order, the lengths first, on flat copies of the tables; then the call.
 ghost use mathlib.Core.Path.{_≡_};
 ghost use lib.ListN.{length};
 ghost use Rattle.book.specs.Calls.{returns};
@@ -7,69 +7,26 @@ ghost use Rattle.state.specs.Contracts.{returned, answeredBy};
 ghost use Rattle.state.specs.Functions.{Calls};
 ghost use Rattle.state.specs.Requests.{callOf};
 ghost use Rattle.state.specs.World.{world};
-ghost use Rattle.calls_model.specs.Perform.{controlIn, performed, stateAfter, Lent};
+ghost use Rattle.calls_model.specs.Perform.{performed, Lent};
 ghost use Rattle.cores.specs.Lent.{ByValue};
 use crate::crossing::flat_into;
-use crate::crossing::table_from;
+use crate::crossing::visits_into;
 use crate::outs::Out;
-use calls::perform::accept;
-use calls::perform::check;
-use calls_model::Done;
-use journal::Control;
+use crate::outs::out_after;
+use crate::outs::out_with;
+use crate::ram::control_of;
+use crate::ram::counts_of;
+use calls::accept::accept;
+use calls::check::check;
 use journal::lengths::lengths_fit;
 use state::answers::Answer;
-use state::answers::Result;
 use state::answers::number_of;
 use state::ram::State;
 use state::requests::Request;
 use state::requests::is_typed;
 use tables_model::Scope;
 
-fn control_of(s: State) -> Control
-    ensures { λ r. ⌜ r ≡ controlIn s ⌝ }
-{
-    let phase = s.phase;
-    let fuse = s.fuse;
-    Control {
-        phase: phase,
-        fuse: fuse,
-        stored: s.stored,
-        waiting: s.waiting,
-    }
-}
-
-// The state after an accepted call.
-fn new_state(d: Done, tail: [u8; 1024]) -> State
-    ensures { λ r. ⌜ r ≡ stateAfter (d .control) (d .tables) tail ⌝ }
-{
-    let c = d.control;
-    let tables = d.tables;
-    let phase = c.phase;
-    let fuse = c.fuse;
-    State {
-        phase: phase,
-        fuse: fuse,
-        stored: c.stored,
-        waiting: c.waiting,
-        tables: tables,
-        tail: tail,
-    }
-}
-
-// State and table stay as they were.
-fn refused(answer: Answer, state: State, table: [Scope; 64]) -> Out
-    ensures { λ r. ⌜ r ≡ record { result = record { state = state; answer = answer }; table = table } ⌝ }
-{
-    Out {
-        result: Result {
-            state: state,
-            answer: answer,
-        },
-        table: table,
-    }
-}
-
-// The checks but that of the lengths, and the call.
+// The checks but that of the lengths, and the call. A refusal leaves state and table as they are.
 fn decide(
     state: State,
     log: &mut [u8],
@@ -83,26 +40,31 @@ fn decide(
         ≡ performed (world state (now (log .entry)) (now (charts .entry)) (now (copy .entry)) table) (callOf request))
         × HasCase (doneCase (returns (callOf request))) (r .result .answer) ⌝ }
 {
+    let tables = state.tables;
+    let active = tables.active;
+    let mut visits = [0u16; 32];
+    visits_into(active, &mut visits);
     let mut flat = [0u16; 448];
     flat_into(table, &mut flat);
     let c = control_of(state);
-    let t = state.tables;
-    let refusal = check(c, t, &flat, request);
+    let t = counts_of(tables);
+    let refusal = check(c, t, &visits, &flat, request);
     if number_of(refusal) != 0 {
-        return refused(refusal, state, table);
+        return out_with(refusal, state, table);
     }
     let mut tail = state.tail;
-    let d = accept(c, t, log, charts, copy, &mut tail, &mut flat, request);
-    let next = new_state(d, tail);
-    let after = table_from(&flat);
-    let answer = d.answer;
-    Out {
-        result: Result {
-            state: next,
-            answer: answer,
-        },
-        table: after,
-    }
+    let o = accept(
+        c,
+        t,
+        &mut visits,
+        log,
+        charts,
+        copy,
+        &mut tail,
+        &mut flat,
+        request,
+    );
+    out_after(o, &visits, tail, &flat)
 }
 
 // The lent table has n entries: another number than 64 is a wrong length.
@@ -120,7 +82,7 @@ pub fn call_core(
 {
     is_typed(request);
     if !lengths_fit(log.len(), charts.len(), copy.len(), n) {
-        return refused(Answer::WrongLength, state, t);
+        return out_with(Answer::WrongLength, state, t);
     }
     decide(state, log, charts, copy, t, request)
 }

@@ -1,43 +1,24 @@
-// Format and open: they have no use for the scope table but its length, and leave it or clear it.
-ghost use mathlib.Core.Path.{_≡_};
+// Format and open: the lengths are checked first. They take nothing from state and scope table, and leave or clear them.
 ghost use Rattle.state.specs.Contracts.{returned};
 ghost use Rattle.state.specs.Functions.{Formats, Opens};
 ghost use Rattle.state.specs.World.{world};
-ghost use Rattle.recovery_model.specs.Answering.{tableAfter};
 ghost use Rattle.cores.specs.Lent.{ByValue};
 use crate::entries::blank;
 use crate::outs::Out;
+use crate::outs::out_after;
+use crate::outs::out_with;
+use crate::ram::closed_state;
+use journal::lengths::lengths_fit;
+use journal::writes::clear;
 use recovery::format::format;
 use recovery::open::open;
-use recovery_model::Restart;
-use state::answers::Result;
+use state::answers::Answer;
+use state::answers::number_of;
 use state::ram::Fuse;
 use state::ram::State;
 use tables_model::Scope;
 
-// With the table as it is left.
-fn with_table(o: Restart, t: [Scope; 64]) -> Out
-    ensures { λ r. ⌜ r ≡ record { result = record { state = o .state; answer = o .answer }; table = tableAfter (o .clears) t } ⌝ }
-{
-    let state = o.state;
-    let answer = o.answer;
-    let r = Result {
-        state: state,
-        answer: answer,
-    };
-    if o.clears {
-        let z = blank();
-        return Out {
-            result: r,
-            table: z,
-        };
-    }
-    Out {
-        result: r,
-        table: t,
-    }
-}
-
+// A format that is done closes the store and clears RAM.
 pub fn format_core(
     state: State,
     log: &mut [u8],
@@ -50,8 +31,17 @@ pub fn format_core(
     ensures { λ r. ⌜ ByValue (Formats (now (cells .entry))) (world state (now (log .entry)) (now (charts .entry)) (now (copy .entry))) n t
         (returned (r .result) (now (log .exit)) (now (charts .exit)) (now (copy .exit))) (r .table) ⌝ }
 {
-    let o = format(state, cells, log, charts, copy, n);
-    with_table(o, t)
+    if !lengths_fit(log.len(), charts.len(), copy.len(), n) {
+        return out_with(Answer::WrongLength, state, t);
+    }
+    let answer = format(cells, log, charts);
+    if number_of(answer) != 0 {
+        return out_with(answer, state, t);
+    }
+    clear(copy);
+    let closed = closed_state();
+    let none = blank();
+    out_with(answer, closed, none)
 }
 
 pub fn open_core(
@@ -66,6 +56,12 @@ pub fn open_core(
     ensures { λ r. ⌜ ByValue (Opens fuse) (world state (now (log .entry)) (now (charts .entry)) (now (copy .entry))) n t
         (returned (r .result) (now (log .exit)) (now (charts .exit)) (now (copy .exit))) (r .table) ⌝ }
 {
-    let o = open(state, log, charts, copy, n, fuse);
-    with_table(o, t)
+    if !lengths_fit(log.len(), charts.len(), copy.len(), n) {
+        return out_with(Answer::WrongLength, state, t);
+    }
+    let mut visits = [0u16; 32];
+    let mut flat = [0u16; 448];
+    let mut tail = [0u8; 1024];
+    let o = open(fuse, log, charts, copy, &mut tail, &mut visits, &mut flat);
+    out_after(o, &visits, tail, &flat)
 }

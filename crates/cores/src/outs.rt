@@ -1,6 +1,17 @@
 // What the cores give back: the result, and the scope table. A walk by hand goes into no field, so the struct is put together and taken apart by calls.
 ghost use mathlib.Core.Path.{_≡_};
+ghost use mathlib.Core.List.{map};
+ghost use lib.ListN.{length};
+ghost use Rattle.tables_model.specs.Entries.{scopeOf, entries};
+ghost use Rattle.tables_model.specs.Visits.{tablesIn};
+ghost use Rattle.journal.specs.Outcomes.{stateAfter};
+ghost use Rattle.calls_model.specs.Perform.{Flat};
+use crate::crossing::table_from;
+use crate::ram::state_after;
+use journal::Outcome;
+use state::answers::Answer;
 use state::answers::Result;
+use state::ram::State;
 use tables_model::Scope;
 
 pub struct Out {
@@ -29,4 +40,31 @@ pub fn table_of(o: Out) -> [Scope; 64]
 {
     let t = o.table;
     t
+}
+
+// This answer, state and table.
+pub(crate) fn out_with(answer: Answer, state: State, table: [Scope; 64]) -> Out
+    ensures { λ r. ⌜ r ≡ record { result = record { state = state; answer = answer }; table = table } ⌝ }
+{
+    Out {
+        result: Result {
+            state: state,
+            answer: answer,
+        },
+        table: table,
+    }
+}
+
+// What a call on the flat tables and a tail came to.
+pub(crate) fn out_after(o: Outcome, visits: &[u16], tail: [u8; 1024], flat: &[u16]) -> Out
+    requires { ⌜ Flat (length (now visits)) (length (now flat)) ⌝ }
+    ensures { λ r. ⌜ r ≡ record {
+      result = record { state = stateAfter (o .control) (tablesIn (o .counts) (now (visits .entry))) tail; answer = o .answer };
+      table = map scopeOf (entries (now (flat .entry)));
+    } ⌝ }
+{
+    let state = state_after(o, visits, tail);
+    let table = table_from(flat);
+    let answer = o.answer;
+    out_with(answer, state, table)
 }

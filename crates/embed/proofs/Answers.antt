@@ -8,7 +8,7 @@ use mir.Val.{SFits}
 use Rattle.book.specs.Book.{answer}
 use Rattle.book.specs.Numbers.{bitsOf, signed}
 use Rattle.book.proofs.Numbers.{InBits, signed-bits}
-use Rattle.embed.specs.Packed.{answerIn}
+use Rattle.embed_model.specs.Packed.{answerIn}
 
 in-bits : (z : ℤ) → SFits w32 z → InBits 32 z
 in-bits (pos n) f = omega arith

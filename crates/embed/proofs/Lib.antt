@@ -1,5 +1,6 @@
 -- What the proofs of several functions use.
 mod Twos
 mod Answers
-mod Calls
-mod Openings
+mod Calling
+mod Eight
+mod Restarting

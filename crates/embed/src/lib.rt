@@ -1,153 +1,204 @@
-// The ten calls for C. Each is lent the RAM block (crate `block`), the stored log and the stored charts; a slice crosses as a pointer and a length. A block
-// of another length answers refusal 1 and changes nothing; everything else is the store's.
+// The ten calls for C. Each is lent five arrays of RAM (head, visits, scopes, tail and copy), which it works on where they lie, the stored log and the
+// stored charts; an array crosses as a pointer, a slice as a pointer and a length.
+mod head; // where the journal stands and the counters, in eight numbers
+mod opening; // format and open on the arrays
 mod packed; // the answer in one number
-mod run; // a call of an open store
+mod run; // the calls of an open store on the arrays
 
-ghost use mathlib.Core.Path.{_≡_};
 ghost use Rattle.book.specs.Calls.{Call};
-ghost use Rattle.state.specs.Contracts.{CallPost, OpenPost, FormatPost};
-ghost use Rattle.state.specs.World.{allowance};
-ghost use Rattle.embed.specs.Packed.{fuseIn};
-ghost use Rattle.embed.specs.Called.{Called};
-use block::COPY;
-use block::LENGTH;
-use block::block::put_cleared;
-use packed::packed;
-use recovery::format::format;
-use recovery::open::open;
-use recovery::ram::closed_state;
-use rows::Cell;
-use rows::Visit;
-use run::run;
-use state::answers::Answer;
-use state::answers::number_of;
-use state::ram::Fuse;
-use state::requests::Request;
+ghost use Rattle.embed_model.specs.Arrays.{arrays};
+ghost use Rattle.embed_model.specs.Called.{Formats, Opens, Calls};
 
-fn fuse_of(n: u32) -> Fuse
-    ensures { λ r. ⌜ allowance r ≡ fuseIn n ⌝ }
-{
-    if n == 4294967295 {
-        Fuse::Unlimited
-    } else {
-        Fuse::Left(n)
-    }
-}
-
-// Format and open take nothing from the state that they are handed, so that any will do.
 #[no_mangle]
-pub extern "C" fn chart_format(
-    ram: &mut [u8],
+pub extern "C" fn chart_format_on(
+    head: &mut [u32; 8],
+    visits: &mut [u16; 32],
+    scopes: &mut [u16; 448],
+    tail: &mut [u8; 1024],
+    copy: &mut [u8; 1024],
     log: &mut [u8],
     charts: &mut [u8],
     cells: &[i32],
 ) -> u64
-    ensures { λ r. ⌜ Called (FormatPost (now (cells .entry))) (now (ram .entry)) (now (log .entry)) (now (charts .entry)) r (now (ram .exit)) (now (log .exit)) (now (charts .exit)) ⌝ }
+    ensures { λ r. ⌜ Formats (now (cells .entry)) (arrays (now (head .entry)) (now (visits .entry)) (now (scopes .entry)) (now (tail .entry)) (now (copy .entry)) (now (log .entry)) (now (charts .entry))) r
+        (arrays (now (head .exit)) (now (visits .exit)) (now (scopes .exit)) (now (tail .exit)) (now (copy .exit)) (now (log .exit)) (now (charts .exit))) ⌝ }
 {
-    if ram.len() != LENGTH {
-        return packed(Answer::WrongLength);
-    }
-    let state = closed_state();
-    let o = format(state, cells, log, charts, &mut ram[COPY..LENGTH], 64);
-    let a = o.answer;
-    if number_of(a) != 0 {
-        return packed(a);
-    }
-    let s = o.state;
-    put_cleared(ram, s);
-    packed(a)
+    opening::format(head, visits, scopes, tail, copy, log, charts, cells)
 }
 
 #[no_mangle]
-pub extern "C" fn chart_open(ram: &mut [u8], log: &mut [u8], charts: &mut [u8], fuse: u32) -> u64
-    ensures { λ r. ⌜ Called (OpenPost (fuseIn fuse)) (now (ram .entry)) (now (log .entry)) (now (charts .entry)) r (now (ram .exit)) (now (log .exit)) (now (charts .exit)) ⌝ }
+pub extern "C" fn chart_open_on(
+    head: &mut [u32; 8],
+    visits: &mut [u16; 32],
+    scopes: &mut [u16; 448],
+    tail: &mut [u8; 1024],
+    copy: &mut [u8; 1024],
+    log: &mut [u8],
+    charts: &mut [u8],
+    fuse: u32,
+) -> u64
+    ensures { λ r. ⌜ Opens fuse (arrays (now (head .entry)) (now (visits .entry)) (now (scopes .entry)) (now (tail .entry)) (now (copy .entry)) (now (log .entry)) (now (charts .entry))) r
+        (arrays (now (head .exit)) (now (visits .exit)) (now (scopes .exit)) (now (tail .exit)) (now (copy .exit)) (now (log .exit)) (now (charts .exit))) ⌝ }
 {
-    if ram.len() != LENGTH {
-        return packed(Answer::WrongLength);
-    }
-    if log.len() != 65536 {
-        return packed(Answer::WrongLength);
-    }
-    if charts.len() != 1024 {
-        return packed(Answer::WrongLength);
-    }
-    let state = closed_state();
-    let fuse = fuse_of(fuse);
-    let o = open(state, log, charts, &mut ram[COPY..LENGTH], 64, fuse);
-    let a = o.answer;
-    let s = o.state;
-    put_cleared(ram, s);
-    packed(a)
+    opening::open(head, visits, scopes, tail, copy, log, charts, fuse)
 }
 
 #[no_mangle]
-pub extern "C" fn chart_begin(ram: &mut [u8], log: &mut [u8], charts: &mut [u8]) -> u64
-    ensures { λ r. ⌜ Called (CallPost Call.begin) (now (ram .entry)) (now (log .entry)) (now (charts .entry)) r (now (ram .exit)) (now (log .exit)) (now (charts .exit)) ⌝ }
+pub extern "C" fn chart_begin_on(
+    head: &mut [u32; 8],
+    visits: &mut [u16; 32],
+    scopes: &mut [u16; 448],
+    tail: &mut [u8; 1024],
+    copy: &mut [u8; 1024],
+    log: &mut [u8],
+    charts: &mut [u8],
+) -> u64
+    ensures { λ r. ⌜ Calls (Call.begin) (arrays (now (head .entry)) (now (visits .entry)) (now (scopes .entry)) (now (tail .entry)) (now (copy .entry)) (now (log .entry)) (now (charts .entry))) r
+        (arrays (now (head .exit)) (now (visits .exit)) (now (scopes .exit)) (now (tail .exit)) (now (copy .exit)) (now (log .exit)) (now (charts .exit))) ⌝ }
 {
-    run(ram, log, charts, Request::Begin)
+    run::begin(head, visits, scopes, tail, copy, log, charts)
 }
 
 #[no_mangle]
-pub extern "C" fn chart_change(
-    ram: &mut [u8],
+pub extern "C" fn chart_change_on(
+    head: &mut [u32; 8],
+    visits: &mut [u16; 32],
+    scopes: &mut [u16; 448],
+    tail: &mut [u8; 1024],
+    copy: &mut [u8; 1024],
     log: &mut [u8],
     charts: &mut [u8],
     visit: u16,
     cell: u8,
     amount: i16,
 ) -> u64
-    ensures { λ r. ⌜ Called (CallPost (Call.change visit cell amount)) (now (ram .entry)) (now (log .entry)) (now (charts .entry)) r (now (ram .exit)) (now (log .exit)) (now (charts .exit)) ⌝ }
+    ensures { λ r. ⌜ Calls (Call.change visit cell amount) (arrays (now (head .entry)) (now (visits .entry)) (now (scopes .entry)) (now (tail .entry)) (now (copy .entry)) (now (log .entry)) (now (charts .entry))) r
+        (arrays (now (head .exit)) (now (visits .exit)) (now (scopes .exit)) (now (tail .exit)) (now (copy .exit)) (now (log .exit)) (now (charts .exit))) ⌝ }
 {
-    let request = Request::Change(Visit(visit), Cell(cell), amount);
-    run(ram, log, charts, request)
+    run::change(
+        head,
+        visits,
+        scopes,
+        tail,
+        copy,
+        log,
+        charts,
+        visit,
+        cell,
+        amount,
+    )
 }
 
 #[no_mangle]
-pub extern "C" fn chart_hand_over(
-    ram: &mut [u8],
+pub extern "C" fn chart_hand_over_on(
+    head: &mut [u32; 8],
+    visits: &mut [u16; 32],
+    scopes: &mut [u16; 448],
+    tail: &mut [u8; 1024],
+    copy: &mut [u8; 1024],
     log: &mut [u8],
     charts: &mut [u8],
     giver: u16,
     receiver: u16,
     cell: u8,
 ) -> u64
-    ensures { λ r. ⌜ Called (CallPost (Call.handOver giver receiver cell)) (now (ram .entry)) (now (log .entry)) (now (charts .entry)) r (now (ram .exit)) (now (log .exit)) (now (charts .exit)) ⌝ }
+    ensures { λ r. ⌜ Calls (Call.handOver giver receiver cell) (arrays (now (head .entry)) (now (visits .entry)) (now (scopes .entry)) (now (tail .entry)) (now (copy .entry)) (now (log .entry)) (now (charts .entry))) r
+        (arrays (now (head .exit)) (now (visits .exit)) (now (scopes .exit)) (now (tail .exit)) (now (copy .exit)) (now (log .exit)) (now (charts .exit))) ⌝ }
 {
-    let request = Request::HandOver(Visit(giver), Visit(receiver), Cell(cell));
-    run(ram, log, charts, request)
+    run::hand_over(
+        head,
+        visits,
+        scopes,
+        tail,
+        copy,
+        log,
+        charts,
+        giver,
+        receiver,
+        cell,
+    )
 }
 
 #[no_mangle]
-pub extern "C" fn chart_commit(ram: &mut [u8], log: &mut [u8], charts: &mut [u8], visit: u16) -> u64
-    ensures { λ r. ⌜ Called (CallPost (Call.commit visit)) (now (ram .entry)) (now (log .entry)) (now (charts .entry)) r (now (ram .exit)) (now (log .exit)) (now (charts .exit)) ⌝ }
+pub extern "C" fn chart_commit_on(
+    head: &mut [u32; 8],
+    visits: &mut [u16; 32],
+    scopes: &mut [u16; 448],
+    tail: &mut [u8; 1024],
+    copy: &mut [u8; 1024],
+    log: &mut [u8],
+    charts: &mut [u8],
+    visit: u16,
+) -> u64
+    ensures { λ r. ⌜ Calls (Call.commit visit) (arrays (now (head .entry)) (now (visits .entry)) (now (scopes .entry)) (now (tail .entry)) (now (copy .entry)) (now (log .entry)) (now (charts .entry))) r
+        (arrays (now (head .exit)) (now (visits .exit)) (now (scopes .exit)) (now (tail .exit)) (now (copy .exit)) (now (log .exit)) (now (charts .exit))) ⌝ }
 {
-    run(ram, log, charts, Request::Commit(Visit(visit)))
+    run::commit(head, visits, scopes, tail, copy, log, charts, visit)
 }
 
 #[no_mangle]
-pub extern "C" fn chart_abort(ram: &mut [u8], log: &mut [u8], charts: &mut [u8], visit: u16) -> u64
-    ensures { λ r. ⌜ Called (CallPost (Call.abort visit)) (now (ram .entry)) (now (log .entry)) (now (charts .entry)) r (now (ram .exit)) (now (log .exit)) (now (charts .exit)) ⌝ }
+pub extern "C" fn chart_abort_on(
+    head: &mut [u32; 8],
+    visits: &mut [u16; 32],
+    scopes: &mut [u16; 448],
+    tail: &mut [u8; 1024],
+    copy: &mut [u8; 1024],
+    log: &mut [u8],
+    charts: &mut [u8],
+    visit: u16,
+) -> u64
+    ensures { λ r. ⌜ Calls (Call.abort visit) (arrays (now (head .entry)) (now (visits .entry)) (now (scopes .entry)) (now (tail .entry)) (now (copy .entry)) (now (log .entry)) (now (charts .entry))) r
+        (arrays (now (head .exit)) (now (visits .exit)) (now (scopes .exit)) (now (tail .exit)) (now (copy .exit)) (now (log .exit)) (now (charts .exit))) ⌝ }
 {
-    run(ram, log, charts, Request::Abort(Visit(visit)))
+    run::abort(head, visits, scopes, tail, copy, log, charts, visit)
 }
 
 #[no_mangle]
-pub extern "C" fn chart_force(ram: &mut [u8], log: &mut [u8], charts: &mut [u8]) -> u64
-    ensures { λ r. ⌜ Called (CallPost Call.force) (now (ram .entry)) (now (log .entry)) (now (charts .entry)) r (now (ram .exit)) (now (log .exit)) (now (charts .exit)) ⌝ }
+pub extern "C" fn chart_force_on(
+    head: &mut [u32; 8],
+    visits: &mut [u16; 32],
+    scopes: &mut [u16; 448],
+    tail: &mut [u8; 1024],
+    copy: &mut [u8; 1024],
+    log: &mut [u8],
+    charts: &mut [u8],
+) -> u64
+    ensures { λ r. ⌜ Calls (Call.force) (arrays (now (head .entry)) (now (visits .entry)) (now (scopes .entry)) (now (tail .entry)) (now (copy .entry)) (now (log .entry)) (now (charts .entry))) r
+        (arrays (now (head .exit)) (now (visits .exit)) (now (scopes .exit)) (now (tail .exit)) (now (copy .exit)) (now (log .exit)) (now (charts .exit))) ⌝ }
 {
-    run(ram, log, charts, Request::Force)
+    run::force(head, visits, scopes, tail, copy, log, charts)
 }
 
 #[no_mangle]
-pub extern "C" fn chart_flush(ram: &mut [u8], log: &mut [u8], charts: &mut [u8], page: u8) -> u64
-    ensures { λ r. ⌜ Called (CallPost (Call.flush page)) (now (ram .entry)) (now (log .entry)) (now (charts .entry)) r (now (ram .exit)) (now (log .exit)) (now (charts .exit)) ⌝ }
+pub extern "C" fn chart_flush_on(
+    head: &mut [u32; 8],
+    visits: &mut [u16; 32],
+    scopes: &mut [u16; 448],
+    tail: &mut [u8; 1024],
+    copy: &mut [u8; 1024],
+    log: &mut [u8],
+    charts: &mut [u8],
+    page: u8,
+) -> u64
+    ensures { λ r. ⌜ Calls (Call.flush page) (arrays (now (head .entry)) (now (visits .entry)) (now (scopes .entry)) (now (tail .entry)) (now (copy .entry)) (now (log .entry)) (now (charts .entry))) r
+        (arrays (now (head .exit)) (now (visits .exit)) (now (scopes .exit)) (now (tail .exit)) (now (copy .exit)) (now (log .exit)) (now (charts .exit))) ⌝ }
 {
-    run(ram, log, charts, Request::Flush(page))
+    run::flush(head, visits, scopes, tail, copy, log, charts, page)
 }
 
 #[no_mangle]
-pub extern "C" fn chart_read(ram: &mut [u8], log: &mut [u8], charts: &mut [u8], cell: u8) -> u64
-    ensures { λ r. ⌜ Called (CallPost (Call.read cell)) (now (ram .entry)) (now (log .entry)) (now (charts .entry)) r (now (ram .exit)) (now (log .exit)) (now (charts .exit)) ⌝ }
+pub extern "C" fn chart_read_on(
+    head: &mut [u32; 8],
+    visits: &mut [u16; 32],
+    scopes: &mut [u16; 448],
+    tail: &mut [u8; 1024],
+    copy: &mut [u8; 1024],
+    log: &mut [u8],
+    charts: &mut [u8],
+    cell: u8,
+) -> u64
+    ensures { λ r. ⌜ Calls (Call.read cell) (arrays (now (head .entry)) (now (visits .entry)) (now (scopes .entry)) (now (tail .entry)) (now (copy .entry)) (now (log .entry)) (now (charts .entry))) r
+        (arrays (now (head .exit)) (now (visits .exit)) (now (scopes .exit)) (now (tail .exit)) (now (copy .exit)) (now (log .exit)) (now (charts .exit))) ⌝ }
 {
-    run(ram, log, charts, Request::Read(Cell(cell)))
+    run::read(head, visits, scopes, tail, copy, log, charts, cell)
 }

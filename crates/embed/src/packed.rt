@@ -4,7 +4,7 @@ ghost use Prim.Native.Nat.{_<_};
 ghost use Rattle.book.specs.Book.{answer};
 ghost use Rattle.book.specs.Numbers.{bitsOf};
 ghost use Rattle.state.specs.Answers.{numberAndValue};
-ghost use Rattle.embed.specs.Packed.{answerIn};
+ghost use Rattle.embed_model.specs.Packed.{answerIn};
 use state::answers::Answer;
 use state::answers::number_of;
 use state::answers::value_of;

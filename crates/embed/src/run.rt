@@ -1,74 +1,257 @@
-// A call of an open store on the block, in place: what it works on is taken from the block, and put back only where the call is accepted.
+// The calls of an open store on the arrays, lent as slices: every check, then the call, in place. Nothing is written where a check refuses.
 ghost use mathlib.Core.Path.{_≡_};
-ghost use lib.ListN.{length};
-ghost use Rattle.book.specs.Limits.{chartsLength};
-ghost use Rattle.book.specs.Calls.{Typed};
-ghost use Rattle.state.specs.Contracts.{CallPost};
-ghost use Rattle.state.specs.Requests.{callOf};
-ghost use Rattle.calls_model.specs.Perform.{Lent};
-ghost use Rattle.block.specs.Fields.{ramLength};
-ghost use Rattle.block.specs.Block.{worldIn};
-ghost use Rattle.embed.specs.Called.{Called, answeredIn};
+ghost use Rattle.book.specs.Calls.{Call};
+ghost use Rattle.embed_model.specs.Arrays.{arrays, Lengths};
+ghost use Rattle.embed_model.specs.Called.{Calls};
+use crate::head::control_in;
+use crate::head::counts_in;
+use crate::head::finish;
 use crate::packed::packed;
-use block::COPY;
-use block::LENGTH;
-use block::block::control_in;
-use block::block::flat_in;
-use block::block::put;
-use block::block::tables_in;
-use block::block::tail_in;
-use calls::perform::accept;
-use calls::perform::check;
+use calls::accept::accept_abort;
+use calls::accept::accept_begin;
+use calls::accept::accept_change;
+use calls::accept::accept_commit;
+use calls::accept::accept_flush;
+use calls::accept::accept_force;
+use calls::accept::accept_hand_over;
+use calls::accept::accept_read;
+use calls::check::check_begin;
+use calls::check::check_change;
+use calls::check::check_end;
+use calls::check::check_flush;
+use calls::check::check_force;
+use calls::check::check_hand_over;
+use calls::check::check_read;
+use journal::lengths::stored_fit;
+use rows::Cell;
+use rows::Visit;
 use state::answers::Answer;
 use state::answers::number_of;
-use state::requests::Request;
-use state::requests::is_typed;
 
-// Every check but that of the lengths; nothing is written where one of them refuses.
-fn decide(ram: &mut [u8], log: &mut [u8], charts: &mut [u8], request: Request) -> u64
-    requires { ⌜ (length (now ram) ≡ ramLength) × Lent (length (now log)) (length (now charts)) chartsLength × Typed (callOf request) ⌝ }
-    ensures { λ r. ⌜ CallPost (callOf request) (worldIn (now (ram .entry)) (now (log .entry)) (now (charts .entry))) (answeredIn r (now (ram .exit)) (now (log .exit)) (now (charts .exit))) ⌝ }
+pub(crate) fn begin(
+    head: &mut [u32],
+    visits: &mut [u16],
+    scopes: &mut [u16],
+    tail: &mut [u8],
+    copy: &mut [u8],
+    log: &mut [u8],
+    charts: &mut [u8],
+) -> u64
+    requires { ⌜ Lengths (arrays (now head) (now visits) (now scopes) (now tail) (now copy) (now log) (now charts)) ⌝ }
+    ensures { λ r. ⌜ Calls (Call.begin) (arrays (now (head .entry)) (now (visits .entry)) (now (scopes .entry)) (now (tail .entry)) (now (copy .entry)) (now (log .entry)) (now (charts .entry))) r
+        (arrays (now (head .exit)) (now (visits .exit)) (now (scopes .exit)) (now (tail .exit)) (now (copy .exit)) (now (log .exit)) (now (charts .exit))) ⌝ }
 {
-    let c = control_in(ram);
-    let t = tables_in(ram);
-    let used = t.used;
-    let mut flat = [0u16; 448];
-    flat_in(ram, used, &mut flat);
-    let refusal = check(c, t, &flat, request);
+    if !stored_fit(log.len(), charts.len()) {
+        return packed(Answer::WrongLength);
+    }
+    let c = control_in(head);
+    let t = counts_in(head);
+    let refusal = check_begin(c, t, scopes);
     if number_of(refusal) != 0 {
         return packed(refusal);
     }
-    let mut tail = tail_in(ram);
-    let d = accept(
-        c,
-        t,
-        log,
-        charts,
-        &mut ram[COPY..LENGTH],
-        &mut tail,
-        &mut flat,
-        request,
-    );
-    let after = d.control;
-    let tables = d.tables;
-    put(ram, after, tables, &tail, &flat);
-    let answer = d.answer;
-    packed(answer)
+    let r = accept_begin(c, t, visits, log, copy, tail, scopes);
+    finish(head, r)
 }
 
-// The lengths first.
-pub(crate) fn run(ram: &mut [u8], log: &mut [u8], charts: &mut [u8], request: Request) -> u64
-    ensures { λ r. ⌜ Called (CallPost (callOf request)) (now (ram .entry)) (now (log .entry)) (now (charts .entry)) r (now (ram .exit)) (now (log .exit)) (now (charts .exit)) ⌝ }
+pub(crate) fn change(
+    head: &mut [u32],
+    visits: &mut [u16],
+    scopes: &mut [u16],
+    tail: &mut [u8],
+    copy: &mut [u8],
+    log: &mut [u8],
+    charts: &mut [u8],
+    visit: u16,
+    cell: u8,
+    amount: i16,
+) -> u64
+    requires { ⌜ Lengths (arrays (now head) (now visits) (now scopes) (now tail) (now copy) (now log) (now charts)) ⌝ }
+    ensures { λ r. ⌜ Calls (Call.change visit cell amount) (arrays (now (head .entry)) (now (visits .entry)) (now (scopes .entry)) (now (tail .entry)) (now (copy .entry)) (now (log .entry)) (now (charts .entry))) r
+        (arrays (now (head .exit)) (now (visits .exit)) (now (scopes .exit)) (now (tail .exit)) (now (copy .exit)) (now (log .exit)) (now (charts .exit))) ⌝ }
 {
-    is_typed(request);
-    if ram.len() != LENGTH {
+    if !stored_fit(log.len(), charts.len()) {
         return packed(Answer::WrongLength);
     }
-    if log.len() != 65536 {
+    let c = control_in(head);
+    let t = counts_in(head);
+    let v = Visit(visit);
+    let k = Cell(cell);
+    let refusal = check_change(c, t, visits, scopes, v, k);
+    if number_of(refusal) != 0 {
+        return packed(refusal);
+    }
+    let r = accept_change(c, t, visits, log, copy, tail, scopes, v, k, amount);
+    finish(head, r)
+}
+
+pub(crate) fn hand_over(
+    head: &mut [u32],
+    visits: &mut [u16],
+    scopes: &mut [u16],
+    tail: &mut [u8],
+    copy: &mut [u8],
+    log: &mut [u8],
+    charts: &mut [u8],
+    giver: u16,
+    receiver: u16,
+    cell: u8,
+) -> u64
+    requires { ⌜ Lengths (arrays (now head) (now visits) (now scopes) (now tail) (now copy) (now log) (now charts)) ⌝ }
+    ensures { λ r. ⌜ Calls (Call.handOver giver receiver cell) (arrays (now (head .entry)) (now (visits .entry)) (now (scopes .entry)) (now (tail .entry)) (now (copy .entry)) (now (log .entry)) (now (charts .entry))) r
+        (arrays (now (head .exit)) (now (visits .exit)) (now (scopes .exit)) (now (tail .exit)) (now (copy .exit)) (now (log .exit)) (now (charts .exit))) ⌝ }
+{
+    if !stored_fit(log.len(), charts.len()) {
         return packed(Answer::WrongLength);
     }
-    if charts.len() != 1024 {
+    let c = control_in(head);
+    let t = counts_in(head);
+    let g = Visit(giver);
+    let v = Visit(receiver);
+    let k = Cell(cell);
+    let refusal = check_hand_over(c, t, visits, scopes, g, v, k);
+    if number_of(refusal) != 0 {
+        return packed(refusal);
+    }
+    let r = accept_hand_over(c, t, visits, log, copy, tail, scopes, g, v, k);
+    finish(head, r)
+}
+
+pub(crate) fn commit(
+    head: &mut [u32],
+    visits: &mut [u16],
+    scopes: &mut [u16],
+    tail: &mut [u8],
+    copy: &mut [u8],
+    log: &mut [u8],
+    charts: &mut [u8],
+    visit: u16,
+) -> u64
+    requires { ⌜ Lengths (arrays (now head) (now visits) (now scopes) (now tail) (now copy) (now log) (now charts)) ⌝ }
+    ensures { λ r. ⌜ Calls (Call.commit visit) (arrays (now (head .entry)) (now (visits .entry)) (now (scopes .entry)) (now (tail .entry)) (now (copy .entry)) (now (log .entry)) (now (charts .entry))) r
+        (arrays (now (head .exit)) (now (visits .exit)) (now (scopes .exit)) (now (tail .exit)) (now (copy .exit)) (now (log .exit)) (now (charts .exit))) ⌝ }
+{
+    if !stored_fit(log.len(), charts.len()) {
         return packed(Answer::WrongLength);
     }
-    decide(ram, log, charts, request)
+    let c = control_in(head);
+    let t = counts_in(head);
+    let v = Visit(visit);
+    let refusal = check_end(c, t, visits, v);
+    if number_of(refusal) != 0 {
+        return packed(refusal);
+    }
+    let r = accept_commit(c, t, visits, log, copy, tail, scopes, v);
+    finish(head, r)
+}
+
+pub(crate) fn abort(
+    head: &mut [u32],
+    visits: &mut [u16],
+    scopes: &mut [u16],
+    tail: &mut [u8],
+    copy: &mut [u8],
+    log: &mut [u8],
+    charts: &mut [u8],
+    visit: u16,
+) -> u64
+    requires { ⌜ Lengths (arrays (now head) (now visits) (now scopes) (now tail) (now copy) (now log) (now charts)) ⌝ }
+    ensures { λ r. ⌜ Calls (Call.abort visit) (arrays (now (head .entry)) (now (visits .entry)) (now (scopes .entry)) (now (tail .entry)) (now (copy .entry)) (now (log .entry)) (now (charts .entry))) r
+        (arrays (now (head .exit)) (now (visits .exit)) (now (scopes .exit)) (now (tail .exit)) (now (copy .exit)) (now (log .exit)) (now (charts .exit))) ⌝ }
+{
+    if !stored_fit(log.len(), charts.len()) {
+        return packed(Answer::WrongLength);
+    }
+    let c = control_in(head);
+    let t = counts_in(head);
+    let v = Visit(visit);
+    let refusal = check_end(c, t, visits, v);
+    if number_of(refusal) != 0 {
+        return packed(refusal);
+    }
+    let r = accept_abort(c, t, visits, log, copy, tail, scopes, v);
+    finish(head, r)
+}
+
+pub(crate) fn force(
+    head: &mut [u32],
+    visits: &mut [u16],
+    scopes: &mut [u16],
+    tail: &mut [u8],
+    copy: &mut [u8],
+    log: &mut [u8],
+    charts: &mut [u8],
+) -> u64
+    requires { ⌜ Lengths (arrays (now head) (now visits) (now scopes) (now tail) (now copy) (now log) (now charts)) ⌝ }
+    ensures { λ r. ⌜ Calls (Call.force) (arrays (now (head .entry)) (now (visits .entry)) (now (scopes .entry)) (now (tail .entry)) (now (copy .entry)) (now (log .entry)) (now (charts .entry))) r
+        (arrays (now (head .exit)) (now (visits .exit)) (now (scopes .exit)) (now (tail .exit)) (now (copy .exit)) (now (log .exit)) (now (charts .exit))) ⌝ }
+{
+    if !stored_fit(log.len(), charts.len()) {
+        return packed(Answer::WrongLength);
+    }
+    let c = control_in(head);
+    let t = counts_in(head);
+    let refusal = check_force(c, t);
+    if number_of(refusal) != 0 {
+        return packed(refusal);
+    }
+    let r = accept_force(c, t, visits, log, copy, tail, scopes);
+    finish(head, r)
+}
+
+pub(crate) fn flush(
+    head: &mut [u32],
+    visits: &mut [u16],
+    scopes: &mut [u16],
+    tail: &mut [u8],
+    copy: &mut [u8],
+    log: &mut [u8],
+    charts: &mut [u8],
+    page: u8,
+) -> u64
+    requires { ⌜ Lengths (arrays (now head) (now visits) (now scopes) (now tail) (now copy) (now log) (now charts)) ⌝ }
+    ensures { λ r. ⌜ Calls (Call.flush page) (arrays (now (head .entry)) (now (visits .entry)) (now (scopes .entry)) (now (tail .entry)) (now (copy .entry)) (now (log .entry)) (now (charts .entry))) r
+        (arrays (now (head .exit)) (now (visits .exit)) (now (scopes .exit)) (now (tail .exit)) (now (copy .exit)) (now (log .exit)) (now (charts .exit))) ⌝ }
+{
+    if !stored_fit(log.len(), charts.len()) {
+        return packed(Answer::WrongLength);
+    }
+    let c = control_in(head);
+    let t = counts_in(head);
+    let refusal = check_flush(c, t, page);
+    if number_of(refusal) != 0 {
+        return packed(refusal);
+    }
+    let r = accept_flush(c, t, visits, log, charts, copy, tail, scopes, page);
+    finish(head, r)
+}
+
+// A read writes nothing.
+pub(crate) fn read(
+    head: &mut [u32],
+    visits: &mut [u16],
+    scopes: &mut [u16],
+    tail: &mut [u8],
+    copy: &mut [u8],
+    log: &mut [u8],
+    charts: &mut [u8],
+    cell: u8,
+) -> u64
+    requires { ⌜ Lengths (arrays (now head) (now visits) (now scopes) (now tail) (now copy) (now log) (now charts)) ⌝ }
+    ensures { λ r. ⌜ Calls (Call.read cell) (arrays (now (head .entry)) (now (visits .entry)) (now (scopes .entry)) (now (tail .entry)) (now (copy .entry)) (now (log .entry)) (now (charts .entry))) r
+        (arrays (now (head .exit)) (now (visits .exit)) (now (scopes .exit)) (now (tail .exit)) (now (copy .exit)) (now (log .exit)) (now (charts .exit))) ⌝ }
+{
+    if !stored_fit(log.len(), charts.len()) {
+        return packed(Answer::WrongLength);
+    }
+    let c = control_in(head);
+    let t = counts_in(head);
+    let k = Cell(cell);
+    let refusal = check_read(c, t, k);
+    if number_of(refusal) != 0 {
+        return packed(refusal);
+    }
+    let r = accept_read(c, t, visits, log, copy, tail, scopes, k);
+    let answer = r.answer;
+    packed(answer)
 }

@@ -2,3 +2,4 @@ pub mod Writes
 pub mod Force
 pub mod Journal
 pub mod Meaning
+pub mod Outcomes

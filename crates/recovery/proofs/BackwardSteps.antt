@@ -7,7 +7,6 @@ use lib.ListN.{getD}
 use Rattle.book.specs.Rows.{Row}
 use Rattle.state.specs.declared.ram.Fuse.{Fuse}
 use Rattle.tables_model.specs.declared.Active.{Active}
-use Rattle.tables_model.specs.declared.Tables.{Tables}
 use Rattle.tables_model.specs.Visits.{vacant}
 use Rattle.tables_model.specs.declared.Whom.the-variants.{All}
 use Rattle.tables_model.specs.Rows.{Index}
@@ -18,32 +17,23 @@ use Rattle.undo.proofs.Counters.{Counters, counters-written, counters-fallAll}
 use Rattle.undo.proofs.CountersForced.{counters-forced}
 use Rattle.recovery_model.specs.Backward.{abortAll, starting, backward}
 
-module _ (t : Tables) (m : Ram) where
-  turn : (n : ℕ) → abortAll (suc n) t m ≡ abortAll n t (written m (Row.abort (getD (t .active) n vacant .visit .0)))
+module _ (active : List Active) (m : Ram) where
+  turn : (n : ℕ) → abortAll (suc n) active m ≡ abortAll n active (written m (Row.abort (getD active n vacant .visit .0)))
   unfolding abortAll
   turn n = refl
 
-  pub abort-turn : (n : ℕ) → 0 < n → abortAll n t m ≡ abortAll (n - 1) t (written m (Row.abort (getD (t .active) (n - 1) vacant .visit .0)))
-  abort-turn n h = let e : n ≡ suc (n - 1) = omega arith in ap (λ (k : ℕ). abortAll k t m) e ∙ turn (n - 1)
+  pub abort-turn : (n : ℕ) → 0 < n → abortAll n active m ≡ abortAll (n - 1) active (written m (Row.abort (getD active (n - 1) vacant .visit .0)))
+  abort-turn n h = let e : n ≡ suc (n - 1) = omega arith in ap (λ (k : ℕ). abortAll k active m) e ∙ turn (n - 1)
 
-  pub abort-end : (n : ℕ) → n ≤ 0 → abortAll n t m ≡ m
+  pub abort-end : (n : ℕ) → n ≤ 0 → abortAll n active m ≡ m
   unfolding abortAll
   abort-end n h = let e : n ≡ 0 = omega arith in rw e
 
--- only the list of visits is looked at
-abbrev pub listing : List Active → Tables
-listing active = record { begun = 0; active = active; count = 0; used = 0 }
-
-pub abort-listed : (n : ℕ) (t : Tables) (m : Ram) → abortAll n t m ≡ abortAll n (listing (t .active)) m
+pub counters-aborted : (n : ℕ) (active : List Active) (m : Ram) → Counters (m .journal .control) → Counters (abortAll n active m .journal .control)
 unfolding abortAll
-abort-listed zero t m = refl
-abort-listed (suc n) t m = abort-listed n t _
-
-pub counters-aborted : (n : ℕ) (t : Tables) (m : Ram) → Counters (m .journal .control) → Counters (abortAll n t m .journal .control)
-unfolding abortAll
-counters-aborted zero t m h = h
-counters-aborted (suc n) t m h =
-    let r = Row.abort (getD (t .active) n vacant .visit .0) in counters-aborted n t (written m r) (counters-written m r h)
+counters-aborted zero active m h = h
+counters-aborted (suc n) active m h =
+    let r = Row.abort (getD active n vacant .visit .0) in counters-aborted n active (written m r) (counters-written m r h)
 
 -- ── The three steps ───────────────────────────────────────────────────────────────────────────────────────────────────
 
@@ -52,10 +42,10 @@ module _ (f : Fuse) (rows : ℕ) (x : Index) (log copy : List ℕ) where
   unfolding backward
   counters-backward h =
       counters-forced _
-      (counters-aborted (x .tables .count) (x .tables) _
+      (counters-aborted (x .tables .count) (x .tables .active) _
       (counters-fallAll rows All (x .tables .used) (record { ram = starting f rows log copy; scopes = x .scopes }) (record { few = omega arith; room = omega arith })))
 
   pub three-steps : (t : Taking) (m : Ram) (j : Journal) → t ≡ fallAll rows All (x .tables .used) (record { ram = starting f rows log copy; scopes = x .scopes })
-      → m ≡ abortAll (x .tables .count) (x .tables) (t .ram) → j ≡ forced (m .journal) → record { journal = j; copy = m .copy } ≡ backward f rows x log copy
+      → m ≡ abortAll (x .tables .count) (x .tables .active) (t .ram) → j ≡ forced (m .journal) → record { journal = j; copy = m .copy } ≡ backward f rows x log copy
   unfolding backward
   three-steps t m j d e g = rw (g, e, d)

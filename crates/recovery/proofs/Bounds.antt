@@ -5,7 +5,6 @@ use mathlib.Core.List.{List}
 use native.Mathlib.Omega.{arith}
 use lib.Dec.{eqb}
 use Rattle.rows.specs.Reading.{isBlank}
-use Rattle.tables_model.specs.Visits.{InRange}
 use Rattle.tables_model.specs.Rows.{Index}
 use Rattle.undo.specs.Looking.{rowBytesAt}
 use Rattle.recovery_model.specs.declared.Reason.the-variants.{Bytes}
@@ -13,20 +12,20 @@ use Rattle.recovery_model.specs.declared.Judged.{Judged}
 use Rattle.recovery_model.specs.declared.Judged.the-variants.{Taken, Ends, Bad}
 use Rattle.recovery_model.specs.Scan.{judgeRow, Scanned, scanOn, scanFrom, firstSet, scanned}
 use Rattle.recovery_model.specs.Openings.{noIndex}
-use Rattle.recovery.proofs.ScanTurns.{judged-range}
+use Rattle.recovery.proofs.ScanTurns.{Ranged, judged-range}
 
 pub record Bounded (s : Scanned) : Type 0 where
   pub rows : s .rows ≤ 4096
   pub bad : s .bad ≤ 4096
-  pub range : InRange (s .index .tables)
+  pub range : Ranged (s .index)
 
-scan-bounded : (m k : ℕ) (log : List ℕ) (x : Index) → k + m ≤ 4096 → InRange (x .tables) → Bounded (scanFrom m k log x)
+scan-bounded : (m k : ℕ) (log : List ℕ) (x : Index) → k + m ≤ 4096 → Ranged x → Bounded (scanFrom m k log x)
 unfolding scanFrom
 scan-bounded zero k log x h r = record { rows = omega arith; bad = omega arith; range = r }
 scan-bounded (suc m) k log x h r =
     go (judgeRow log k x .judged) (judgeRow log k x .index) (judged-range log k x r) (λ y i. scan-bounded m (suc k) log y (omega arith) i)
   where
-    go : (d : Judged) (y : Index) → InRange (y .tables) → ((z : Index) → InRange (z .tables) → Bounded (scanFrom m (suc k) log z))
+    go : (d : Judged) (y : Index) → Ranged y → ((z : Index) → Ranged z → Bounded (scanFrom m (suc k) log z))
         → Bounded (scanOn d k y (scanFrom m (suc k) log))
     go Taken y i on = on y i
     go Ends y i on = record { rows = omega arith; bad = omega arith; range = i }

@@ -1,7 +1,6 @@
 -- What format leaves: the pages that it builds are the book's pages of no rows, and the zeros of the log are its bytes of no rows. Assumes nothing.
 use Prim.Native.Nat.{ℕ, _*_, _≤_, _<_}
 use mathlib.Core.Path.{_≡_, ap, sym, _∙_}
-use mathlib.Core.Bool.{true}
 use mathlib.Core.List.{List, [], _++_}
 use native.Mathlib.Omega.{arith}
 use lib.ListN.{length, take, drop, replicate}
@@ -14,8 +13,9 @@ use Rattle.book.specs.Pages.{pageBytes, chartBytes, pageAfter}
 use Rattle.book.proofs.Blocks.{tabulate-same}
 use Rattle.book.specs.LogBytes.{logBytes}
 use Rattle.charts.specs.Build.{fromCells}
-use Rattle.state.specs.World.{World, rightLengths, cleared}
-use Rattle.state.specs.Contracts.{answered, badCell, cellsOf, formats}
+use Rattle.state.specs.declared.answers.Answer.the-variants.{Done}
+use Rattle.state.specs.Contracts.{badCell, cellsOf}
+use Rattle.recovery_model.specs.Answering.{formattedAs, formatBytes}
 
 -- page p of the values
 abbrev pub pageOfCells : List ℤ → ℕ → List ℕ
@@ -43,7 +43,7 @@ pub no-rows : (n : ℕ) (bs : List ℕ) → bs ≡ replicate n 0 → n ≡ 65536
 unfolding logBytes
 no-rows n bs e h = e ∙ ap (λ (k : ℕ). replicate k 0) h
 
-pub formats-done : (values : List ℤ) (w : World) → rightLengths w ≡ true → length values ≡ 224 → 224 ≤ badCell values
-    → formats values w ≡ answered 0 (pos 0) (cleared (logBytes []) (chartBytes (pageAfter (cellsOf values) [])))
-unfolding formats
-formats-done values w l n k = rw (l, eq-eqb (length values) 224 n, le-ltb (badCell values) 224 k)
+pub formatted-done : (values : List ℤ) (log charts : List ℕ) → length values ≡ 224 → 224 ≤ badCell values
+    → formatBytes values log charts ≡ formattedAs Done (logBytes []) (chartBytes (pageAfter (cellsOf values) []))
+unfolding formatBytes
+formatted-done values log charts n k = rw (eq-eqb (length values) 224 n, le-ltb (badCell values) 224 k)

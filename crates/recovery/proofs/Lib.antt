@@ -5,4 +5,4 @@ pub mod PageTurns
 pub mod Laying
 pub mod FormatPages
 pub mod BackwardSteps
-pub mod Sizes
+pub mod Settling

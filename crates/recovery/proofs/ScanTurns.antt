@@ -13,7 +13,7 @@ use Rattle.rows.specs.declared.Read.{Read}
 use Rattle.rows.specs.declared.Read.the-variants.{Valid, Blank, Malformed, OutOfRange}
 use Rattle.tables_model.specs.declared.Verdict.{Verdict}
 use Rattle.tables_model.specs.declared.Verdict.the-variants.{Allowed, Unlawful, OverLimit}
-use Rattle.tables_model.specs.Visits.{InRange, noTables}
+use Rattle.tables_model.specs.Visits.{InRange}
 use Rattle.tables_model.specs.Rows.{Index, judgeBy}
 use Rattle.tables_model.specs.Meaning.{beforeUndone}
 use Rattle.tables.proofs.Verdicts.{allowed-takes}
@@ -67,25 +67,25 @@ module _ (k : ℕ) (log : List ℕ) (x : Index) where
 
 -- ── The counters stay within the arrays ───────────────────────────────────────────────────────────────────────────────
 
-module _ (log : List ℕ) (k : ℕ) (x : Index) (h : InRange (x .tables)) where
-  ruled-range : (named r : book.Row) (v : Verdict) → judgeBy x k named r ≡ v → InRange (ruled log k x r v .index .tables)
+-- the counters of both tables are within them
+abbrev pub Ranged : Index → Type 0
+Ranged x = InRange (x .tables .count) (x .tables .used)
+
+module _ (log : List ℕ) (k : ℕ) (x : Index) (h : Ranged x) where
+  ruled-range : (named r : book.Row) (v : Verdict) → judgeBy x k named r ≡ v → Ranged (ruled log k x r v .index)
   ruled-range named r Allowed e = step-range x (suc k) (beforeUndone (rowIn log k) x r) r h (allowed-takes x k named r e)
   ruled-range named r Unlawful e = h
   ruled-range named r OverLimit e = h
 
-  read-range : (b : Read) → InRange (judgedRead log k x b .index .tables)
+  read-range : (b : Read) → Ranged (judgedRead log k x b .index)
   read-range Blank = h
   read-range Malformed = h
   read-range OutOfRange = h
   read-range (Valid row) = let named = rowIn log k (book.undoneBy (meant row)) in ruled-range named (meant row) (judgeBy x k named (meant row)) refl
 
-  pub judged-range : InRange (judgeRow log k x .index .tables)
+  pub judged-range : Ranged (judgeRow log k x .index)
   unfolding judgeRow
   judged-range = read-range (readOf (suc k) (rowBytesAt log k))
-
-pub none-range : InRange noTables
-unfolding noTables
-none-range = record { count = omega arith; used = omega arith }
 
 -- ── The whole log ─────────────────────────────────────────────────────────────────────────────────────────────────────
 

@@ -2,6 +2,7 @@
 ghost use mathlib.Core.Path.{_≡_};
 ghost use Prim.Native.Nat.{_≤_};
 ghost use lib.ListN.{length, replicate};
+ghost use Rattle.tables_model.specs.Visits.{actives};
 ghost use Rattle.tables_model.specs.Rows.{index};
 ghost use Rattle.undo.specs.Writing.{ram, Fits};
 ghost use Rattle.recovery_model.specs.Backward.{abortAll, backward as backwardOf};
@@ -12,23 +13,29 @@ use recovery_model::LogScan;
 use rows::Row;
 use state::ram::Fuse;
 use state::ram::Phase;
-use tables_model::Tables;
+use tables::visits::active_at;
 use tables_model::Whom;
 use undo::take_back::take_back;
 use undo::write::write;
 
-// An abort row for each active visit, the last one first.
-fn abort_all(c: Control, t: Tables, log: &mut [u8], tail: &mut [u8], copy: &mut [u8]) -> Control
-    requires { ⌜ Fits c (length (now log)) (length (now tail)) (length (now copy)) × (t .count ≤ 16) ⌝ }
+// An abort row for each of the first `count` visits, the last one first.
+fn abort_all(
+    c: Control,
+    log: &mut [u8],
+    tail: &mut [u8],
+    copy: &mut [u8],
+    visits: &[u16],
+    count: usize,
+) -> Control
+    requires { ⌜ Fits c (length (now log)) (length (now tail)) (length (now copy)) × (length (now visits) ≡ 32) × (count ≤ 16) ⌝ }
     ensures { λ r. ⌜ ram r (now (log .exit)) (now (tail .exit)) (now (copy .exit))
-        ≡ abortAll (t .count) t (ram c (now (log .entry)) (now (tail .entry)) (now (copy .entry))) ⌝ }
+        ≡ abortAll count (actives (now (visits .entry))) (ram c (now (log .entry)) (now (tail .entry)) (now (copy .entry))) ⌝ }
 {
-    let active = t.active;
     let mut d = c;
-    let mut n = t.count;
+    let mut n = count;
     while 0 < n {
         n -= 1;
-        let a = active[n];
+        let a = active_at(visits, n);
         let v = a.visit;
         d = write(d, log, tail, copy, Row::Abort(v));
     }
@@ -42,14 +49,15 @@ pub fn backward(
     log: &mut [u8],
     tail: &mut [u8],
     copy: &mut [u8],
+    visits: &[u16],
     scopes: &mut [u16],
 ) -> Control
-    requires { ⌜ Recovers s (length (now log)) (length (now copy)) (length (now scopes)) ⌝ }
+    requires { ⌜ Recovers s (length (now log)) (length (now copy)) (length (now tail)) (length (now visits)) (length (now scopes)) ⌝ }
     requires { ⌜ now tail ≡ replicate 1024 0 ⌝ }
     ensures { λ r. ⌜ ram r (now (log .exit)) (now (tail .exit)) (now (copy .exit))
-        ≡ backwardOf fuse (s .rows) (index (s .tables) (now (scopes .entry))) (now (log .entry)) (now (copy .entry)) ⌝ }
+        ≡ backwardOf fuse (s .rows) (index (s .counts) (now (visits .entry)) (now (scopes .entry))) (now (log .entry)) (now (copy .entry)) ⌝ }
 {
-    let t = s.tables;
+    let t = s.counts;
     let c = Control {
         phase: Phase::Open,
         fuse: fuse,
@@ -57,6 +65,6 @@ pub fn backward(
         waiting: 0,
     };
     let d = take_back(c, log, tail, copy, scopes, t.used, Whom::All);
-    let e = abort_all(d, t, log, tail, copy);
+    let e = abort_all(d, log, tail, copy, visits, t.count);
     force(e, log, tail)
 }

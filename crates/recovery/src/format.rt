@@ -1,24 +1,17 @@
-// Format: charts from the values of the cells, an empty log, and a closed store; for whatever it is handed.
+// Format: charts from the values of the cells, and an empty log; for whatever values it is handed.
 ghost use mathlib.Core.Path.{_≡_};
-ghost use mathlib.Core.List.{List, []};
+ghost use mathlib.Core.List.{[]};
 ghost use lib.ListN.{length};
 ghost use Rattle.book.specs.Limits.{formatBound};
 ghost use Rattle.book.specs.Numbers.{within};
 ghost use Rattle.book.specs.Pages.{chartBytes, pageAfter};
-ghost use Rattle.tables_model.specs.declared.Scope.{Scope};
-ghost use Rattle.state.specs.World.{world};
 ghost use Rattle.state.specs.Answers.{nothing, HasCase};
-ghost use Rattle.state.specs.Contracts.{badCell, cellsOf, formats};
-ghost use Rattle.recovery_model.specs.Answering.{leaves};
-use crate::ram::closed_by;
-use crate::ram::refused;
+ghost use Rattle.state.specs.Contracts.{badCell, cellsOf};
+ghost use Rattle.recovery_model.specs.Answering.{formattedAs, formatBytes};
 use charts::page::build_page;
-use journal::lengths::lengths_fit;
 use journal::writes::clear;
-use recovery_model::Restart;
 use rows::Cell;
 use state::answers::Answer;
-use state::ram::State;
 
 // A number of grams within ±1,000,000.
 fn is_format(z: i32) -> bool
@@ -60,30 +53,20 @@ fn build_charts(charts: &mut [u8], cells: &[i32])
     }
 }
 
-// `scopes` is the length of the lent scope table.
-pub fn format(
-    state: State,
-    cells: &[i32],
-    log: &mut [u8],
-    charts: &mut [u8],
-    copy: &mut [u8],
-    scopes: usize,
-) -> Restart
-    ensures { λ r. ⌜ ((table : List Scope) → length table ≡ scopes
-        → leaves r (now (log .exit)) (now (charts .exit)) (now (copy .exit)) table
-        ≡ formats (now (cells .entry)) (world state (now (log .entry)) (now (charts .entry)) (now (copy .entry)) table)) × HasCase nothing (r .answer) ⌝ }
+// Log and charts have their lengths. A refusal changes nothing; where this is done, RAM is to be cleared.
+pub fn format(cells: &[i32], log: &mut [u8], charts: &mut [u8]) -> Answer
+    requires { ⌜ (length (now log) ≡ 65536) × (length (now charts) ≡ 1024) ⌝ }
+    ensures { λ r. ⌜ (formattedAs r (now (log .exit)) (now (charts .exit)) ≡ formatBytes (now (cells .entry)) (now (log .entry)) (now (charts .entry)))
+        × HasCase nothing r ⌝ }
 {
-    if !lengths_fit(log.len(), charts.len(), copy.len(), scopes) {
-        return refused(state, Answer::WrongLength);
-    }
     if cells.len() != 224 {
-        return refused(state, Answer::WrongLength);
+        return Answer::WrongLength;
     }
     let c = bad_cell(cells);
     if c < 224 {
-        return refused(state, Answer::CellOutOfRange(Cell(c as u8)));
+        return Answer::CellOutOfRange(Cell(c as u8));
     }
     build_charts(charts, cells);
     clear(log);
-    closed_by(copy, Answer::Done)
+    Answer::Done
 }

@@ -5,5 +5,4 @@ pub mod format; // charts from the values of the cells, and an empty log
 pub mod look; // rows of the log looked up
 pub mod open; // an opening from its checks to what it leaves
 pub mod pages; // the check of the pages, and the forward part
-pub mod ram; // the states that they leave, and refusals
 pub mod scan; // the check of the log

@@ -1,12 +1,14 @@
 // Rows of the log that is checked are looked up: the row that an undo row names, and the change before that one in its scope.
 ghost use mathlib.Core.Path.{_≡_};
+ghost use mathlib.Core.List.{List};
+ghost use Prim.Native.Nat.{ℕ};
 ghost use lib.ListN.{length};
 ghost use Rattle.book.specs.Rows.{undoneBy};
 ghost use Rattle.rows.specs.Meaning.{meant, coded};
 ghost use Rattle.tables_model.specs.declared.Whom.the-variants.{One};
-ghost use Rattle.tables_model.specs.Entries.{scopeIn, entries};
+ghost use Rattle.tables_model.specs.Entries.{scopeIn, entries, Sized};
 ghost use Rattle.tables_model.specs.Table.{Reaches};
-ghost use Rattle.tables_model.specs.Rows.{Ready, index};
+ghost use Rattle.tables_model.specs.Rows.{index};
 ghost use Rattle.tables_model.specs.Meaning.{isChangeBy, beforeLast, beforeFound, beforeHighest, beforeUndone};
 ghost use Rattle.recovery_model.specs.Scan.{rowIn};
 ghost use Rattle.recovery_model.specs.Checking.{Rows};
@@ -17,9 +19,9 @@ use rows::Visit;
 use rows::reader::row_in;
 use tables::entries::entry_at;
 use tables::lookup::highest;
+use tables_model::Counts;
 use tables_model::Found;
 use tables_model::Scope;
-use tables_model::Tables;
 use tables_model::Whom;
 use undo::look::is_change_by;
 
@@ -91,21 +93,21 @@ fn before_found(log: &[u8], k: usize, scopes: &[u16], found: Found) -> Lsn
     }
 }
 
-// That of the visit's highest open change.
-fn before_highest(log: &[u8], k: usize, t: Tables, scopes: &[u16], h: Visit) -> Lsn
+// That of the visit's highest open change, whatever visits the table lists.
+fn before_highest(log: &[u8], k: usize, t: Counts, scopes: &[u16], h: Visit) -> Lsn
     requires { ⌜ Rows (length (now log)) k ⌝ }
-    requires { ⌜ Ready t (length (now scopes)) ⌝ }
-    ensures { λ r. ⌜ r .0 ≡ beforeHighest (rowIn (now (log .entry)) k) (One h) (index t (now (scopes .entry))) ⌝ }
+    requires { ⌜ Sized (length (now scopes)) (t .used) ⌝ }
+    ensures { λ r. ⌜ ((visits : List ℕ) → r .0 ≡ beforeHighest (rowIn (now (log .entry)) k) (One h) (index t visits (now (scopes .entry)))) ⌝ }
 {
     let found = highest(scopes, t.used, Whom::One(h));
     before_found(log, k, scopes, found)
 }
 
 // What the tables need besides the row: of an undo row the change before the one undone in its scope, 0 for none.
-pub fn before_undone(log: &[u8], k: usize, t: Tables, scopes: &[u16], row: Row) -> Lsn
+pub fn before_undone(log: &[u8], k: usize, t: Counts, scopes: &[u16], row: Row) -> Lsn
     requires { ⌜ Rows (length (now log)) k ⌝ }
-    requires { ⌜ Ready t (length (now scopes)) ⌝ }
-    ensures { λ r. ⌜ r .0 ≡ beforeUndone (rowIn (now (log .entry)) k) (index t (now (scopes .entry))) (meant row) ⌝ }
+    requires { ⌜ Sized (length (now scopes)) (t .used) ⌝ }
+    ensures { λ r. ⌜ ((visits : List ℕ) → r .0 ≡ beforeUndone (rowIn (now (log .entry)) k) (index t visits (now (scopes .entry))) (meant row)) ⌝ }
 {
     match row {
         Row::Begin(_) => Lsn(0),

@@ -5,31 +5,27 @@ ghost use Prim.Native.Nat.{ℕ, _+_, _-_, _≤_};
 ghost use lib.ListN.{length};
 ghost use lib.IntN.{pos};
 ghost use Rattle.book.specs.Book.{answer};
-ghost use Rattle.tables_model.specs.declared.Scope.{Scope};
-ghost use Rattle.state.specs.World.{world};
-ghost use Rattle.state.specs.Answers.{numberAndValue, written, refusal, caseOf, HasCase};
+ghost use Rattle.state.specs.Answers.{numberAndValue, refusal, caseOf};
 ghost use Rattle.undo.specs.Writing.{ram};
-ghost use Rattle.recovery_model.specs.Checking.{Recovers, found};
-ghost use Rattle.recovery_model.specs.Answering.{leaves};
-ghost use Rattle.recovery_model.specs.Scan.{numberOfReason};
-ghost use Rattle.recovery_model.specs.Openings.{settledOpening, recoveredBy, checkedBy, opensBy};
+ghost use Rattle.recovery_model.specs.Checking.{Lengths, Recovers, found};
+ghost use Rattle.recovery_model.specs.Answering.{OpenOutcome};
+ghost use Rattle.recovery_model.specs.Scan.{numberOfReason, scanned};
+ghost use Rattle.recovery_model.specs.Openings.{noIndex, settledOpening, recoveredBy, checkedBy};
 use crate::backward::backward;
 use crate::pages::bad_page;
 use crate::pages::redo;
-use crate::ram::closed_by;
-use crate::ram::opened_state;
-use crate::ram::refused;
 use crate::scan::scan_log;
 use journal::Control;
-use journal::lengths::lengths_fit;
+use journal::Outcome;
+use journal::writes::clear;
 use recovery_model::LogScan;
 use recovery_model::Reason;
-use recovery_model::Restart;
 use rows::Lsn;
 use state::answers::Answer;
 use state::ram::Fuse;
 use state::ram::Phase;
-use state::ram::State;
+use tables_model::Counts;
+use undo::clear::clear_ram;
 
 // The rows that an opening wrote after the first `rows`.
 fn rows_written(c: Control, rows: usize) -> u16
@@ -40,26 +36,40 @@ fn rows_written(c: Control, rows: usize) -> u16
     if rows < all { (all - rows) as u16 } else { 0 }
 }
 
-// Ready, or the power failed on the way.
-fn settle(c: Control, rows: usize, begun: u16, tail: [u8; 1024], copy: &mut [u8]) -> Restart
-    requires { ⌜ c .stored + c .waiting ≤ 4096 ⌝ }
-    requires { ⌜ length (now copy) ≡ 1024 ⌝ }
-    ensures { λ r. ⌜ ((log charts : List ℕ) (table : List Scope) → leaves r log charts (now (copy .exit)) table
-        ≡ settledOpening rows begun (ram c log tail (now (copy .entry))) charts) × HasCase written (r .answer) ⌝ }
+// Ready, with nobody active after so many begin rows, or the power failed on the way.
+fn settle(
+    c: Control,
+    rows: usize,
+    begun: u16,
+    copy: &mut [u8],
+    tail: &mut [u8],
+    visits: &mut [u16],
+    scopes: &mut [u16],
+) -> Outcome
+    requires { ⌜ (c .waiting ≤ 64) × (c .stored + c .waiting ≤ 4096) ⌝ }
+    requires { ⌜ (length (now copy) ≡ 1024) × (length (now tail) ≡ 1024) × (length (now visits) ≡ 32) × (length (now scopes) ≡ 448) ⌝ }
+    ensures { λ r. ⌜ ((log charts : List ℕ) → OpenOutcome (settledOpening rows begun (ram c log (now (tail .entry)) (now (copy .entry))) charts)
+        r log charts (now (copy .exit)) (now (tail .exit)) (now (visits .exit)) (now (scopes .exit))) ⌝ }
 {
     let phase = c.phase;
     match phase {
         Phase::Closed => {
-            return closed_by(copy, Answer::Closed);
+            return clear_ram(copy, tail, visits, scopes, Answer::Closed);
         }
         Phase::Open => {}
     }
     let n = rows_written(c, rows);
-    let state = opened_state(c, begun, tail);
-    Restart {
-        state: state,
+    tables::entries::clear(visits);
+    tables::entries::clear(scopes);
+    let none = Counts {
+        begun: begun,
+        count: 0,
+        used: 0,
+    };
+    Outcome {
         answer: Answer::Wrote(n),
-        clears: true,
+        control: c,
+        counts: none,
     }
 }
 
@@ -70,21 +80,22 @@ fn recover(
     log: &mut [u8],
     charts: &[u8],
     copy: &mut [u8],
+    tail: &mut [u8],
+    visits: &mut [u16],
     scopes: &mut [u16],
-) -> Restart
-    requires { ⌜ Recovers s (length (now log)) (length (now copy)) (length (now scopes)) ⌝ }
+) -> Outcome
+    requires { ⌜ Recovers s (length (now log)) (length (now copy)) (length (now tail)) (length (now visits)) (length (now scopes)) ⌝ }
     requires { ⌜ length (now charts) ≡ 1024 ⌝ }
-    ensures { λ r. ⌜ ((table : List Scope) → leaves r (now (log .exit)) (now (charts .entry)) (now (copy .exit)) table
-        ≡ recoveredBy fuse (now (log .entry)) (now (charts .entry)) (found s (now (scopes .entry)))) × HasCase written (r .answer) ⌝ }
+    ensures { λ r. ⌜ OpenOutcome (recoveredBy fuse (now (log .entry)) (now (charts .entry)) (found s (now (visits .entry)) (now (scopes .entry))))
+        r (now (log .exit)) (now (charts .entry)) (now (copy .exit)) (now (tail .exit)) (now (visits .exit)) (now (scopes .exit)) ⌝ }
 {
     let rows = s.rows;
-    let t = s.tables;
-    let begun = t.begun;
+    let t = s.counts;
     let _n = bytes::copy(charts, copy);
     redo(log, rows, copy);
-    let mut tail = [0; 1024];
-    let c = backward(fuse, s, log, &mut tail, copy, scopes);
-    settle(c, rows, begun, tail, copy)
+    clear(tail);
+    let c = backward(fuse, s, log, tail, copy, visits, scopes);
+    settle(c, rows, t.begun, copy, tail, visits, scopes)
 }
 
 // What is answered of a bad row.
@@ -105,42 +116,42 @@ fn open_scanned(
     log: &mut [u8],
     charts: &[u8],
     copy: &mut [u8],
+    tail: &mut [u8],
+    visits: &mut [u16],
     scopes: &mut [u16],
-) -> Restart
-    requires { ⌜ Recovers s (length (now log)) (length (now copy)) (length (now scopes)) ⌝ }
+) -> Outcome
+    requires { ⌜ Recovers s (length (now log)) (length (now copy)) (length (now tail)) (length (now visits)) (length (now scopes)) ⌝ }
     requires { ⌜ (s .bad ≤ 4096) × (length (now charts) ≡ 1024) ⌝ }
-    ensures { λ r. ⌜ ((table : List Scope) → leaves r (now (log .exit)) (now (charts .entry)) (now (copy .exit)) table
-        ≡ checkedBy fuse (now (log .entry)) (now (charts .entry)) (found s (now (scopes .entry)))) × HasCase written (r .answer) ⌝ }
+    ensures { λ r. ⌜ OpenOutcome (checkedBy fuse (now (log .entry)) (now (charts .entry)) (found s (now (visits .entry)) (now (scopes .entry))))
+        r (now (log .exit)) (now (charts .entry)) (now (copy .exit)) (now (tail .exit)) (now (visits .exit)) (now (scopes .exit)) ⌝ }
 {
     let bad = s.bad;
     let reason = s.reason;
     if bad != 0 {
-        return closed_by(copy, bad_row(reason, Lsn(bad as u16)));
+        let answer = bad_row(reason, Lsn(bad as u16));
+        return clear_ram(copy, tail, visits, scopes, answer);
     }
     let p = bad_page(log, s.rows, charts);
     if p < 32 {
-        return closed_by(copy, Answer::BadPage(p as u8));
+        return clear_ram(copy, tail, visits, scopes, Answer::BadPage(p as u8));
     }
-    recover(fuse, s, log, charts, copy, scopes)
+    recover(fuse, s, log, charts, copy, tail, visits, scopes)
 }
 
-// `scopes` is the length of the lent scope table. Nothing is taken from the state, the copy or the table but lengths.
+// Nothing is taken from copy, tail, visits and scopes but their lengths.
 pub fn open(
-    state: State,
+    fuse: Fuse,
     log: &mut [u8],
     charts: &[u8],
     copy: &mut [u8],
-    scopes: usize,
-    fuse: Fuse,
-) -> Restart
-    ensures { λ r. ⌜ ((table : List Scope) → length table ≡ scopes
-        → leaves r (now (log .exit)) (now (charts .entry)) (now (copy .exit)) table
-        ≡ opensBy fuse (world state (now (log .entry)) (now (charts .entry)) (now (copy .entry)) table)) × HasCase written (r .answer) ⌝ }
+    tail: &mut [u8],
+    visits: &mut [u16],
+    scopes: &mut [u16],
+) -> Outcome
+    requires { ⌜ Lengths (length (now log)) (length (now charts)) (length (now copy)) (length (now tail)) (length (now visits)) (length (now scopes)) ⌝ }
+    ensures { λ r. ⌜ OpenOutcome (checkedBy fuse (now (log .entry)) (now (charts .entry)) (scanned (now (log .entry)) noIndex))
+        r (now (log .exit)) (now (charts .entry)) (now (copy .exit)) (now (tail .exit)) (now (visits .exit)) (now (scopes .exit)) ⌝ }
 {
-    if !lengths_fit(log.len(), charts.len(), copy.len(), scopes) {
-        return refused(state, Answer::WrongLength);
-    }
-    let mut flat = [0; 448];
-    let s = scan_log(log, &mut flat);
-    open_scanned(fuse, s, log, charts, copy, &mut flat)
+    let s = scan_log(log, visits, scopes);
+    open_scanned(fuse, s, log, charts, copy, tail, visits, scopes)
 }

@@ -22,77 +22,87 @@ use rows::reader::read_row;
 use tables::entries::clear;
 use tables::rules::judge;
 use tables::steps::step;
-use tables::visits::no_tables;
-use tables_model::Tables;
+use tables::visits::no_counts;
+use tables_model::Counts;
 use tables_model::Verdict;
 
 // A row that the rules allow is applied to the tables.
-fn take_row(log: &[u8], k: usize, t: Tables, scopes: &mut [u16], row: Row) -> JudgedRow
+fn take_row(
+    log: &[u8],
+    k: usize,
+    t: Counts,
+    visits: &mut [u16],
+    scopes: &mut [u16],
+    row: Row,
+) -> JudgedRow
     requires { ⌜ Next (length (now log)) k ⌝ }
-    requires { ⌜ Ready t (length (now scopes)) ⌝ }
-    ensures { λ r. ⌜ judgement r (now (scopes .exit)) ≡ ruled (now (log .entry)) k (index t (now (scopes .entry))) (meant row)
-        (judgeBy (index t (now (scopes .entry))) k (rowIn (now (log .entry)) k (undoneBy (meant row))) (meant row)) ⌝ }
+    requires { ⌜ Ready t (length (now visits)) (length (now scopes)) ⌝ }
+    ensures { λ r. ⌜ judgement r (now (visits .exit)) (now (scopes .exit))
+        ≡ ruled (now (log .entry)) k (index t (now (visits .entry)) (now (scopes .entry))) (meant row)
+        (judgeBy (index t (now (visits .entry)) (now (scopes .entry))) k (rowIn (now (log .entry)) k (undoneBy (meant row))) (meant row)) ⌝ }
 {
     let named = named_by(log, k, row);
-    let verdict = judge(t, scopes, k, row, named);
+    let verdict = judge(t, visits, scopes, k, row, named);
     match verdict {
         Verdict::Allowed => {
             let before = before_undone(log, k, t, scopes, row);
-            let next = step(t, scopes, Lsn((k + 1) as u16), row, before);
+            let next = step(t, visits, scopes, Lsn((k + 1) as u16), row, before);
             JudgedRow {
                 judged: Judged::Taken,
-                tables: next,
+                counts: next,
             }
         }
         Verdict::Unlawful => JudgedRow {
             judged: Judged::Bad(Reason::Rule),
-            tables: t,
+            counts: t,
         },
         Verdict::OverLimit => JudgedRow {
             judged: Judged::Bad(Reason::Limit),
-            tables: t,
+            counts: t,
         },
     }
 }
 
 // Row k + 1, after k rows.
-fn judge_row(log: &[u8], k: usize, t: Tables, scopes: &mut [u16]) -> JudgedRow
+fn judge_row(log: &[u8], k: usize, t: Counts, visits: &mut [u16], scopes: &mut [u16]) -> JudgedRow
     requires { ⌜ Next (length (now log)) k ⌝ }
-    requires { ⌜ Ready t (length (now scopes)) ⌝ }
-    ensures { λ r. ⌜ judgement r (now (scopes .exit)) ≡ judgeRow (now (log .entry)) k (index t (now (scopes .entry))) ⌝ }
+    requires { ⌜ Ready t (length (now visits)) (length (now scopes)) ⌝ }
+    ensures { λ r. ⌜ judgement r (now (visits .exit)) (now (scopes .exit))
+        ≡ judgeRow (now (log .entry)) k (index t (now (visits .entry)) (now (scopes .entry))) ⌝ }
 {
     let a = 16 * k;
     let e = a + 16;
     let read = read_row(&log[a..e], Lsn((k + 1) as u16));
     match read {
-        Read::Valid(row) => take_row(log, k, t, scopes, row),
+        Read::Valid(row) => take_row(log, k, t, visits, scopes, row),
         Read::Blank => JudgedRow {
             judged: Judged::Ends,
-            tables: t,
+            counts: t,
         },
         Read::Malformed => JudgedRow {
             judged: Judged::Bad(Reason::Bytes),
-            tables: t,
+            counts: t,
         },
         Read::OutOfRange => JudgedRow {
             judged: Judged::Bad(Reason::Rule),
-            tables: t,
+            counts: t,
         },
     }
 }
 
 // The rows up to the first that is blank or bad.
-fn scan_rows(log: &[u8], first: Tables, scopes: &mut [u16]) -> LogScan
+fn scan_rows(log: &[u8], first: Counts, visits: &mut [u16], scopes: &mut [u16]) -> LogScan
     requires { ⌜ length (now log) ≡ 65536 ⌝ }
-    requires { ⌜ Ready first (length (now scopes)) ⌝ }
-    ensures { λ r. ⌜ found r (now (scopes .exit)) ≡ scanFrom 4096 0 (now (log .entry)) (index first (now (scopes .entry))) ⌝ }
+    requires { ⌜ Ready first (length (now visits)) (length (now scopes)) ⌝ }
+    ensures { λ r. ⌜ found r (now (visits .exit)) (now (scopes .exit))
+        ≡ scanFrom 4096 0 (now (log .entry)) (index first (now (visits .entry)) (now (scopes .entry))) ⌝ }
 {
     let mut t = first;
     let mut k: usize = 0;
     while k < 4096 {
-        let r = judge_row(log, k, t, scopes);
+        let r = judge_row(log, k, t, visits, scopes);
         let judged = r.judged;
-        let next = r.tables;
+        let next = r.counts;
         match judged {
             Judged::Taken => {
                 t = next;
@@ -103,7 +113,7 @@ fn scan_rows(log: &[u8], first: Tables, scopes: &mut [u16]) -> LogScan
                     rows: k,
                     bad: 0,
                     reason: Reason::Bytes,
-                    tables: next,
+                    counts: next,
                 };
             }
             Judged::Bad(reason) => {
@@ -111,7 +121,7 @@ fn scan_rows(log: &[u8], first: Tables, scopes: &mut [u16]) -> LogScan
                     rows: k,
                     bad: k + 1,
                     reason: reason,
-                    tables: next,
+                    counts: next,
                 };
             }
         }
@@ -120,7 +130,7 @@ fn scan_rows(log: &[u8], first: Tables, scopes: &mut [u16]) -> LogScan
         rows: k,
         bad: 0,
         reason: Reason::Bytes,
-        tables: t,
+        counts: t,
     }
 }
 
@@ -142,22 +152,23 @@ fn first_set(log: &[u8], k: usize) -> usize
     0
 }
 
-// The whole log: all rows, then zero bytes to the end. The scope table is cleared first.
-pub fn scan_log(log: &[u8], scopes: &mut [u16]) -> LogScan
+// The whole log: all rows, then zero bytes to the end. Both tables are cleared first.
+pub fn scan_log(log: &[u8], visits: &mut [u16], scopes: &mut [u16]) -> LogScan
     requires { ⌜ length (now log) ≡ 65536 ⌝ }
-    requires { ⌜ length (now scopes) ≡ 448 ⌝ }
-    ensures { λ r. ⌜ found r (now (scopes .exit)) ≡ scanned (now (log .entry)) noIndex ⌝ }
+    requires { ⌜ (length (now visits) ≡ 32) × (length (now scopes) ≡ 448) ⌝ }
+    ensures { λ r. ⌜ found r (now (visits .exit)) (now (scopes .exit)) ≡ scanned (now (log .entry)) noIndex ⌝ }
 {
+    clear(visits);
     clear(scopes);
-    let s = scan_rows(log, no_tables(), scopes);
+    let s = scan_rows(log, no_counts(), visits, scopes);
     if s.bad == 0 {
         let bad = first_set(log, s.rows);
-        let t = s.tables;
+        let t = s.counts;
         return LogScan {
             rows: s.rows,
             bad: bad,
             reason: Reason::Bytes,
-            tables: t,
+            counts: t,
         };
     }
     s

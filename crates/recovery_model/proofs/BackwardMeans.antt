@@ -26,7 +26,6 @@ use Rattle.state.specs.declared.ram.Fuse.{Fuse}
 use Rattle.state.specs.declared.ram.Fuse.the-variants.{Unlimited, Left}
 use Rattle.state.specs.World.{fuseOf, allowance}
 use Rattle.tables_model.specs.declared.Active.{Active}
-use Rattle.tables_model.specs.declared.Tables.{Tables}
 use Rattle.tables_model.specs.declared.Whom.the-variants.{All}
 use Rattle.tables_model.specs.Visits.{vacant}
 use Rattle.tables_model.specs.Meaning.{activeOf, tablesOf, scopeTable, indexOf}
@@ -43,22 +42,22 @@ use Rattle.recovery_model.specs.Backward.{abortAll, starting, backward}
 -- ── The abort rows ────────────────────────────────────────────────────────────────────────────────────────────────────
 
 -- the listed visits stand in ascending order; from the last down they are the ledger's
-abort-each : (l : Ledger) (t : Tables) (vs : List ℕ) (more : List Active) → t .active ≡ reverseAux (map (activeOf l) vs) more → (m : Ram)
-    → abortAll (length vs) t m ≡ foldl written m (map Row.abort vs)
+abort-each : (l : Ledger) (active : List Active) (vs : List ℕ) (more : List Active) → active ≡ reverseAux (map (activeOf l) vs) more → (m : Ram)
+    → abortAll (length vs) active m ≡ foldl written m (map Row.abort vs)
 unfolding abortAll
-abort-each l t [] more e m = refl
-abort-each l t (v ∷ vs) more e m =
-    ap (λ (a : Active). abortAll (length vs) t (written m (Row.abort (a .visit .0)))) last ∙
-    abort-each l t vs (activeOf l v ∷ more) e (written m (Row.abort v))
+abort-each l active [] more e m = refl
+abort-each l active (v ∷ vs) more e m =
+    ap (λ (a : Active). abortAll (length vs) active (written m (Row.abort (a .visit .0)))) last ∙
+    abort-each l active vs (activeOf l v ∷ more) e (written m (Row.abort v))
   where
-    last : getD (t .active) (length vs) vacant ≡ activeOf l v
+    last : getD active (length vs) vacant ≡ activeOf l v
     last =
         ap (λ (list : List Active). getD list (length vs) vacant) (e ∙ reverseAux-eq (map (activeOf l) vs) (activeOf l v ∷ more)) ∙
         getD-at (reverse (map (activeOf l) vs)) (activeOf l v) more vacant (length vs) (length-reverse (map (activeOf l) vs) ∙ length-map vs (activeOf l))
 
-aborts-all : (l : Ledger) (m : Ram) → abortAll (tablesOf l .count) (tablesOf l) m ≡ foldl written m (map Row.abort (l .active))
+aborts-all : (l : Ledger) (m : Ram) → abortAll (tablesOf l .count) (tablesOf l .active) m ≡ foldl written m (map Row.abort (l .active))
 unfolding tablesOf
-aborts-all l m = abort-each l (tablesOf l) (l .active) _ (sym (reverseAux-eq (map (activeOf l) (l .active)) _)) m
+aborts-all l m = abort-each l (tablesOf l .active) (l .active) _ (sym (reverseAux-eq (map (activeOf l) (l .active)) _)) m
 
 -- ── Rows written one after another ────────────────────────────────────────────────────────────────────────────────────
 

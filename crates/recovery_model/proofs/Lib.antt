@@ -6,3 +6,4 @@ pub mod PageOrder
 pub mod BackwardMeans
 pub mod Settled
 pub mod Post
+pub mod Formats

@@ -5,7 +5,7 @@ use lib.ListN.{getD, replicate}
 use Rattle.book.specs.Rows.{Row}
 use Rattle.state.specs.declared.ram.Fuse.{Fuse}
 use Rattle.state.specs.declared.ram.Phase.the-variants.{Open}
-use Rattle.tables_model.specs.declared.Tables.{Tables}
+use Rattle.tables_model.specs.declared.Active.{Active}
 use Rattle.tables_model.specs.declared.Whom.the-variants.{All}
 use Rattle.tables_model.specs.Visits.{vacant}
 use Rattle.tables_model.specs.Rows.{Index}
@@ -14,9 +14,9 @@ use Rattle.undo.specs.Writing.{Ram, written}
 use Rattle.undo.specs.TakeBack.{Taking, fallAll}
 
 -- an abort row for each of the first m listed visits, the last first
-unfoldable pub abortAll : ℕ → Tables → Ram → Ram
-abortAll zero t m = m
-abortAll (suc n) t m = abortAll n t (written m (Row.abort (getD (t .active) n vacant .visit .0)))
+unfoldable pub abortAll : ℕ → List Active → Ram → Ram
+abortAll zero active m = m
+abortAll (suc n) active m = abortAll n active (written m (Row.abort (getD active n vacant .visit .0)))
 
 -- 01: the book is open, nothing waits, the fuse is the one given
 abbrev pub starting : Fuse → ℕ → List ℕ → List ℕ → Ram
@@ -29,5 +29,5 @@ starting f rows log copy = record {
 unfoldable pub backward : Fuse → ℕ → Index → List ℕ → List ℕ → Ram
 backward f rows x log copy =
     let t : Taking = fallAll rows All (x .tables .used) (record { ram = starting f rows log copy; scopes = x .scopes }) in
-    let m : Ram = abortAll (x .tables .count) (x .tables) (t .ram) in
+    let m : Ram = abortAll (x .tables .count) (x .tables .active) (t .ram) in
     record { journal = forced (m .journal); copy = m .copy }

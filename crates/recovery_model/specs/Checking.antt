@@ -1,11 +1,12 @@
--- What the functions that check a log ask, and what they give back.
+-- What the functions that check a log and recover ask, and what the check gives back.
 use Prim.Native.Nat.{ℕ, _≤_, _<_}
 use mathlib.Core.Path.{_≡_}
 use mathlib.Core.List.{List}
 use Rattle.book.specs.Limits.{rowLimit, logLength, chartsLength}
-use Rattle.tables_model.specs.Visits.{InRange}
+use Rattle.tables_model.specs.Visits.{visitsLength, InRange}
 use Rattle.tables_model.specs.Entries.{flatLength}
 use Rattle.tables_model.specs.Rows.{index}
+use Rattle.journal.specs.Outcomes.{tailLength}
 use Rattle.recovery_model.specs.declared.JudgedRow.{JudgedRow}
 use Rattle.recovery_model.specs.declared.LogScan.{LogScan}
 use Rattle.recovery_model.specs.Scan.{Judgement, Scanned}
@@ -20,18 +21,29 @@ pub record Next (size k : ℕ) : Type 0 where
   pub long : size ≡ logLength
   pub below : k < rowLimit
 
--- what a row came to, with the flat table after it
-abbrev pub judgement : JudgedRow → List ℕ → Judgement
-judgement r scopes = record { judged = r .judged; index = index (r .tables) scopes }
+-- what a row came to, with the flat tables after it
+abbrev pub judgement : JudgedRow → List ℕ → List ℕ → Judgement
+judgement r visits scopes = record { judged = r .judged; index = index (r .counts) visits scopes }
 
--- what the check of a log found, with the flat table after it
-abbrev pub found : LogScan → List ℕ → Scanned
-found s scopes = record { rows = s .rows; bad = s .bad; reason = s .reason; index = index (s .tables) scopes }
+-- what the check of a log found, with the flat tables after it
+abbrev pub found : LogScan → List ℕ → List ℕ → Scanned
+found s visits scopes = record { rows = s .rows; bad = s .bad; reason = s .reason; index = index (s .counts) visits scopes }
+
+-- the lengths of the stored bytes and of the arrays of RAM
+pub record Lengths (log charts copy tail visits scopes : ℕ) : Type 0 where
+  pub log-long : log ≡ logLength
+  pub charts-long : charts ≡ chartsLength
+  pub copy-long : copy ≡ chartsLength
+  pub tail-long : tail ≡ tailLength
+  pub visits-long : visits ≡ visitsLength
+  pub scopes-long : scopes ≡ flatLength
 
 -- what the forward and the backward part ask: the lengths, and counters within them
-pub record Recovers (s : LogScan) (log copy scopes : ℕ) : Type 0 where
+pub record Recovers (s : LogScan) (log copy tail visits scopes : ℕ) : Type 0 where
   pub log-long : log ≡ logLength
   pub copy-long : copy ≡ chartsLength
+  pub tail-long : tail ≡ tailLength
+  pub visits-long : visits ≡ visitsLength
   pub scopes-long : scopes ≡ flatLength
   pub rows : s .rows ≤ rowLimit
-  pub range : InRange (s .tables)
+  pub range : InRange (s .counts .count) (s .counts .used)

@@ -16,7 +16,7 @@ ghost use Rattle.runfile.specs.Runs.{zeros, runLines};
 ghost use Rattle.runfile.specs.Play.{Plays, RunsTo};
 use cores::entries::blank;
 use cores::outs::Out;
-use recovery::ram::closed_state;
+use cores::ram::closed_state;
 use rows::numbers::index;
 use run_lines::line::put_fault_line;
 use run_lines::line::put_line;

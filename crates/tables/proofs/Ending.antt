@@ -4,12 +4,11 @@ use mathlib.Core.Path.{_≡_, refl}
 use mathlib.Core.Bool.{Bool, true, false, not}
 use native.Mathlib.Numerals.{add-one}
 use native.Mathlib.Omega.{arith}
-use lib.ListN.{length, getD, length-set}
+use lib.ListN.{length, getD}
 use lib.Dec.{eqb}
 use Rattle.book.specs.Scopes.{Scope, unused}
 use Rattle.tables_model.specs.declared.Active.{Active}
-use Rattle.tables_model.specs.declared.Tables.{Tables}
-use Rattle.tables_model.specs.Visits.{isOf, vacant, keptAt}
+use Rattle.tables_model.specs.Visits.{isOf, vacant, Places, keptAt}
 use Rattle.tables_model.specs.Table.{Scopes, movedAt}
 use Rattle.tables.proofs.Loops.{ranks, ranks-kept, ranks-left}
 
@@ -18,30 +17,23 @@ abbrev pub stays : ℕ → Active → Bool
 stays v a = not (isOf v a)
 
 -- what the loop keeps over place i of the first n
-pub record Turn (v n i : ℕ) (t u : Tables) : Type 0 where
-  pub begun : u .begun ≡ t .begun
-  pub few : u .count ≤ i + 1
-  pub long : length (u .active) ≡ 16
-  pub left : ranks (stays v) n (u .count) (i + 1) (u .active) ≡ ranks (stays v) n (t .count) i (t .active)
+pub record Turn (v n i : ℕ) (x y : Places) : Type 0 where
+  pub few : y .kept ≤ i + 1
+  pub left : ranks (stays v) n (y .kept) (i + 1) (y .all) ≡ ranks (stays v) n (x .kept) i (x .all)
 
-turn-by : (v n i : ℕ) (t : Tables) (b : Bool) → isOf v (getD (t .active) i vacant) ≡ b → t .count ≤ i → i < n → n ≤ 16 → length (t .active) ≡ 16
-    → Turn v n i t (keptAt v i t)
+turn-by : (v n i : ℕ) (x : Places) (b : Bool) → isOf v (getD (x .all) i vacant) ≡ b → x .kept ≤ i → i < n → n ≤ length (x .all) → Turn v n i x (keptAt v i x)
 unfolding keptAt
-turn-by v n i t true e k h w z = record {
-  begun = rw e;
+turn-by v n i x true e k h w = record {
   few = rw e (omega arith);
-  long = rw e z;
-  left = rw e (ranks-left (stays v) n (t .count) i (t .active) vacant h (omega arith) (rw e));
+  left = rw e (ranks-left (stays v) n (x .kept) i (x .all) vacant h w (rw e));
 }
-turn-by v n i t false e k h w z = record {
-  begun = rw e;
+turn-by v n i x false e k h w = record {
   few = rw e (omega arith);
-  long = rw (e, length-set) z;
-  left = rw (e, ← add-one) (ranks-kept (stays v) n (t .count) i (t .active) vacant k h (omega arith) (rw e));
+  left = rw (e, ← add-one) (ranks-kept (stays v) n (x .kept) i (x .all) vacant k h w (rw e));
 }
 
-pub turn : (v n i : ℕ) (t : Tables) → t .count ≤ i → i < n → n ≤ 16 → length (t .active) ≡ 16 → Turn v n i t (keptAt v i t)
-turn v n i t = turn-by v n i t (isOf v (getD (t .active) i vacant)) refl
+pub turn : (v n i : ℕ) (x : Places) → x .kept ≤ i → i < n → n ≤ length (x .all) → Turn v n i x (keptAt v i x)
+turn v n i x = turn-by v n i x (isOf v (getD (x .all) i vacant)) refl
 
 -- ── The same for the scope table ──────────────────────────────────────────────────────────────────────────────────────
 

@@ -16,11 +16,11 @@ use Rattle.tables_model.specs.Entries.{entryAt, entries, flag}
 -- ── A list by its places ──────────────────────────────────────────────────────────────────────────────────────────────
 
 module _ {A : Type 0} where
-  tabulate-length : (n from : ℕ) (f : ℕ → A) → length (tabulate n from f) ≡ n
+  pub tabulate-length : (n from : ℕ) (f : ℕ → A) → length (tabulate n from f) ≡ n
   tabulate-length zero from f = refl
   tabulate-length (suc n) from f = ap suc (tabulate-length n (suc from) f)
 
-  tabulate-at : (n from i : ℕ) (f : ℕ → A) (d : A) → i < n → getD (tabulate n from f) i d ≡ f (from + i)
+  pub tabulate-at : (n from i : ℕ) (f : ℕ → A) (d : A) → i < n → getD (tabulate n from f) i d ≡ f (from + i)
   tabulate-at zero from i f d h = absurd (not-suc-le-zero h)
   tabulate-at (suc n) from zero f d h = ap f (sym (add-zero from))
   tabulate-at (suc n) from (suc i) f d h =
@@ -31,7 +31,7 @@ module _ {A : Type 0} where
   tabulate-same (suc n) from f g h = rw (h from (le-refl from), tabulate-same n (suc from) f g (λ j k. h j (omega arith)))
 
   -- another function that differs at one place only
-  tabulate-set : (n from i : ℕ) (f g : ℕ → A) → i < n → ((j : ℕ) → j ≢ from + i → f j ≡ g j)
+  pub tabulate-set : (n from i : ℕ) (f g : ℕ → A) → i < n → ((j : ℕ) → j ≢ from + i → f j ≡ g j)
       → tabulate n from f ≡ set (tabulate n from g) i (f (from + i))
   tabulate-set zero from i f g h k = absurd (not-suc-le-zero h)
   tabulate-set (suc n) from zero f g h k =
@@ -83,7 +83,7 @@ sets-here t vs a k h w =
     ∙ getD-append-add (take a t) (vs ++ rest) k 0
     ∙ List·getD-append vs rest 0 k w)
 
-handed-back : (b : Bool) → not (eqb (flag b) 0) ≡ b
+pub handed-back : (b : Bool) → not (eqb (flag b) 0) ≡ b
 handed-back true = refl
 handed-back false = refl
 

@@ -1,5 +1,6 @@
 pub mod Loops
 pub mod Flat
+pub mod Places
 pub mod Ending
 pub mod Searches
 pub mod Amounts

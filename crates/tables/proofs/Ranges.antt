@@ -33,14 +33,14 @@ changed-few : (used n v c : ℕ) (ss : List Scope) (f : Found) → used ≤ 64 �
 changed-few used n v c ss (At i) h k = h
 changed-few used n v c ss Nothing h k = ltb-true _ _ k
 
-ended-range : (x : Index) (v : ℕ) → InRange (x .tables) → InRange (afterEnd x v .tables)
+ended-range : (x : Index) (v : ℕ) → InRange (x .tables .count) (x .tables .used) → InRange (afterEnd x v .tables .count) (afterEnd x v .tables .used)
 unfolding withEnded scopesEnded
 ended-range x v h = record {
   count = kept-few (λ a. not (isOf v a)) (x .tables .count) 16 (x .tables .active) (h .count);
   used = kept-few (λ s. not (eqb (s .holder) v)) (x .tables .used) 64 (x .scopes) (h .used);
 }
 
-pub step-range : (x : Index) (n before : ℕ) (r : Row) → InRange (x .tables) → Takes x r → InRange (stepBy x n before r .tables)
+pub step-range : (x : Index) (n before : ℕ) (r : Row) → InRange (x .tables .count) (x .tables .used) → Takes x r → InRange (stepBy x n before r .tables .count) (stepBy x n before r .tables .used)
 unfolding stepBy withBegun withUndo scopesChanged growsBy
 step-range x n before (begin v) h k = record { count = k .room; used = h .used }
 step-range x n before (change v c a) h k = record {

@@ -2,19 +2,19 @@
 use Prim.Native.Nat.{ℕ, _≤_}
 use mathlib.Core.Path.{_≡_, refl, sym}
 use mathlib.Core.Bool.{Bool, true, false, cond, _&&_}
-use mathlib.Core.List.{List}
+use mathlib.Core.List.{List, []}
 use native.Mathlib.Omega.{arith}
 use borrow.Author.Tests.{ltb-true, eqb-true}
 use Rattle.book.specs.Rows.{Row, begin, change, handOver, undo, commit, abort}
 use Rattle.book.specs.Scopes.{Scope}
-use Rattle.tables_model.specs.declared.Tables.{Tables}
+use Rattle.tables_model.specs.declared.Counts.{Counts}
 use Rattle.tables_model.specs.declared.Whom.{Whom}
 use Rattle.tables_model.specs.declared.Found.{Found}
 use Rattle.tables_model.specs.declared.Found.the-variants.{At, Nothing}
 use Rattle.tables_model.specs.declared.Verdict.{Verdict}
 use Rattle.tables_model.specs.declared.Verdict.the-variants.{Allowed, Unlawful, OverLimit}
 use Rattle.tables_model.specs.Table.{highest, Reaches, MayNote}
-use Rattle.tables_model.specs.Rows.{Index, growsBy, MayChange, lawfulBy, withinLimitsBy, judgeBy, Takes}
+use Rattle.tables_model.specs.Rows.{Index, growsBy, Changes, lawfulBy, withinLimitsBy, judgeBy, Takes}
 use Rattle.tables.proofs.Searches.{highest-below}
 
 -- the entry with the highest open change lies within the table
@@ -26,12 +26,12 @@ pub reaches : (w : Whom) (used size : ℕ) (ss : List Scope) (f : Found) → f �
 reaches w used size ss f e = reaches-by w used size ss f (sym e)
 
 -- a change that has an entry may be noted
-pub may-note : (t : Tables) (s : List ℕ) (v c : ℕ) → MayChange t s v c → MayNote s (t .used) v c
+pub may-note : (t : Counts) (s : List ℕ) (v c : ℕ) → Changes t s v c → MayNote s (t .used) v c
 unfolding growsBy
 may-note t s v c h = record {
-  long = h .ready .long;
-  within = h .ready .range .used;
-  room = λ e. ltb-true _ _ (rw e at (h .entry));
+  long = h .ranged .long;
+  within = h .ranged .range .used;
+  room = λ e. ltb-true _ _ (rw e at (h .entry []));
 }
 
 -- ── An allowed row ────────────────────────────────────────────────────────────────────────────────────────────────────

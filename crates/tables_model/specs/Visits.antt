@@ -1,23 +1,24 @@
 -- What the functions over the active visits compute, as equations on the struct `Tables`.
-use Prim.Native.Nat.{ℕ, suc, _≤_, _<_}
+use Prim.Native.Nat.{ℕ, suc, _+_, _*_, _≤_, _<_}
 use mathlib.Core.Path.{_≡_}
 use mathlib.Core.Bool.{Bool, false, cond, not, _&&_, _||_}
 use mathlib.Core.List.{List, _++_, map}
 use lib.ListN.{length, take, drop, set, getD, replicate}
 use lib.Dec.{eqb}
-use Rattle.book.specs.Lists.{keep, any, padTo}
+use Rattle.book.specs.Lists.{keep, any, padTo, tabulate}
 use Rattle.book.specs.Limits.{activeLimit, scopeLimit}
 use Rattle.tables_model.specs.declared.Active.{Active}
 use Rattle.tables_model.specs.declared.Tables.{Tables}
+use Rattle.tables_model.specs.declared.Counts.{Counts}
 
 -- a vacant place
 abbrev pub vacant : Active
 vacant = record { visit = record { 0 = 0 }; bears = false }
 
--- the counters are within the arrays: all that the functions ask of a struct of any origin
-pub record InRange (t : Tables) : Type 0 where
-  pub count : t .count ≤ activeLimit
-  pub used : t .used ≤ scopeLimit
+-- so many visits and so many scopes are within the arrays: all that the functions ask of counters of any origin
+pub record InRange (m n : ℕ) : Type 0 where
+  pub count : m ≤ activeLimit
+  pub used : n ≤ scopeLimit
 
 -- the places in use
 abbrev pub listed : Tables → List Active
@@ -73,21 +74,61 @@ withUsed t used = record { begun = t .begun; active = t .active; count = t .coun
 unfoldable pub noTables : Tables
 noTables = record { begun = 0; active = replicate activeLimit vacant; count = 0; used = 0 }
 
--- ── The steps of `withEnded` ──────────────────────────────────────────────────────────────────────────────────────────
+-- ── The visits in their flat form, and the steps of `withEnded` ───────────────────────────────────────────────────────
 
--- one place is put behind those kept so far, unless the visit has it
-unfoldable pub keptAt : ℕ → ℕ → Tables → Tables
-keptAt v i t =
-    let a : Active = getD (t .active) i vacant in
-    cond (isOf v a) t (record { begun = t .begun; active = set (t .active) (t .count) a; count = suc (t .count); used = t .used })
+-- the length of the flat visits: 16 places of 2 numbers each
+abbrev pub visitsLength : ℕ
+visitsLength = 32
 
--- the visits but v stand in the places in use
-pub record Without (t : Tables) (v : ℕ) (r : Tables) : Type 0 where
-  pub begun : r .begun ≡ t .begun
-  pub kept : listed r ≡ others v t
-  pub count : r .count ≡ length (others v t)
-  pub room : r .count ≤ activeLimit
+-- place i: the visit, and whether an undo row bears it; whatever is not 0 counts as bearing
+abbrev pub activeAt : List ℕ → ℕ → Active
+activeAt vs i = record { visit = record { 0 = getD vs (2 * i) 0 }; bears = not (eqb (getD vs (2 * i + 1) 0) 0) }
 
--- the places behind the last one vacant
-unfoldable pub vacated : Tables → ℕ → Tables
-vacated t used = record { begun = t .begun; active = padTo activeLimit vacant (listed t); count = t .count; used = used }
+-- all 16
+unfoldable pub actives : List ℕ → List Active
+actives vs = tabulate activeLimit 0 (activeAt vs)
+
+-- the counters, and the flat visits beside them
+abbrev pub tablesIn : Counts → List ℕ → Tables
+tablesIn t vs = record { begun = t .begun; active = actives vs; count = t .count; used = t .used }
+
+-- the places, of which the first ones are kept
+pub record Places : Type 0 where
+  pub kept : ℕ
+  pub all : List Active
+
+abbrev pub placesIn : ℕ → List ℕ → Places
+placesIn n vs = record { kept = n; all = actives vs }
+
+-- place i is put behind those kept so far, unless the visit has it
+unfoldable pub keptAt : ℕ → ℕ → Places → Places
+keptAt v i x =
+    let a : Active = getD (x .all) i vacant in
+    cond (isOf v a) x (record { kept = suc (x .kept); all = set (x .all) (x .kept) a })
+
+-- the visits but v stand in the places kept
+pub record Without (t : Tables) (v : ℕ) (x : Places) : Type 0 where
+  pub kept : take (x .kept) (x .all) ≡ others v t
+  pub count : x .kept ≡ length (others v t)
+  pub room : x .kept ≤ activeLimit
+
+-- the flat visits have their length, and so many places lie within them
+pub record Listed (size count : ℕ) : Type 0 where
+  pub long : size ≡ visitsLength
+  pub within : count ≤ activeLimit
+
+-- the flat visits have their length, and a begin row has what it needs
+pub record MayBegin (t : Counts) (vs : List ℕ) (v : ℕ) : Type 0 where
+  pub long : length vs ≡ visitsLength
+  pub begins : Begins (tablesIn t vs) v
+
+-- the flat visits have their length, and place i lies within them
+pub record Placed (size i : ℕ) : Type 0 where
+  pub long : size ≡ visitsLength
+  pub below : i < activeLimit
+
+-- place i is to be put at a place before it, or stays
+pub record Shifts (size kept i : ℕ) : Type 0 where
+  pub long : size ≡ visitsLength
+  pub before : kept ≤ i
+  pub below : i < activeLimit

@@ -19,6 +19,13 @@ pub struct Tables {
     pub used: usize,
 }
 
+// The same without the visits, which are lent beside it where they are worked on in place.
+pub struct Counts {
+    pub begun: u16,
+    pub count: usize,
+    pub used: usize,
+}
+
 // An entry of the scope table: changes of one cell by one maker that share a holder.
 pub struct Scope {
     pub maker: Visit,

@@ -9,3 +9,4 @@ pub mod RowsLookedUp
 pub mod RowWritten
 pub mod FewChanges
 pub mod ChangesFall
+pub mod Clearing

@@ -15,12 +15,12 @@ take-back-requires c κs = search needs
 
 add-requires : tie.Need-add-requires
 add-requires c κs =
-    let s = (c .before .before .before .before .before .before .before .before .before .before .before .before .before .before .before .before .before .before .before .before .before) in
+    let s = c .before .before .before .before .before .before .before .before .before .before .before .before .before .before .before .before .before .before .before .before .before .before .before in
     let a = s .args in
-    let f = (c .before .before .before .before .before .before .before .before .before .before .before .before .take-back) in
+    let f = c .before .before .before .before .before .before .before .before .before .before .before .before .before .take-back in
     let n = rw (← f .ensures) at (counters-fallAll (a .c .stored + a .c .waiting) (One (a .v)) (a .t .used) (taking (a .c) (a .log .now) (a .tail .now) (a .copy .now) (a .scopes .now)) (counters (s .pre .fits))) in (
       fits-again (s .pre .fits) n (f .kept .1 .0) (f .kept .1 .1 .0) (f .kept .1 .1 .1 .0),
-      record { ready = record { range = s .pre .ready .range; long = f .kept .1 .1 .1 .1 .0 ∙ s .pre .ready .long }; takes = tt },
+      record { ready = record { range = s .pre .ready .range; visits-long = s .pre .ready .visits-long; long = f .kept .1 .1 .1 .1 .0 ∙ s .pre .ready .long }; takes = tt },
     )
 
 same-length : tie.Need-same-length
@@ -35,13 +35,16 @@ same-length-3 c = search needs
 same-length-4 : tie.Need-same-length-4
 same-length-4 c = search needs
 
+same-length-5 : tie.Need-same-length-5
+same-length-5 c = search needs
+
 returns : tie.Need-returns
 returns c =
-    let a = (c .before .before .before .before .before .before .before .before .before .before .before .before .before .before .before .before .before .before .before .before .before .before .before .before .before .before .before .before .before .before .args) in
-    let e = (c .before .before .before .before .before .before .before .before .add .ensures) in
-    let b = (c .before .before .before .before .before .before .before .before .before .before .before .before .before .before .before .before .before .before .before .before .before .take-back) in
-    λ charts. let x = core (a .c) (a .t) (a .log .now) charts (a .copy .now) (a .tail .now) (a .scopes .now) in
-    let y = core (b .result) (a .t) (b .last .1 .0) charts (b .last .1 .1 .1 .0) (b .last .1 .1 .0) (b .last .1 .1 .1 .1 .0) in
+    let a = c .before .before .before .before .before .before .before .before .before .before .before .before .before .before .before .before .before .before .before .before .before .before .before .before .before .before .before .before .before .before .before .before .before .before .args in
+    let e = c .before .before .before .before .before .before .before .before .before .before .add .ensures in
+    let b = c .before .before .before .before .before .before .before .before .before .before .before .before .before .before .before .before .before .before .before .before .before .before .before .before .take-back in
+    λ charts. let x = core (a .c) (a .t) (a .visits .now) (a .log .now) charts (a .copy .now) (a .tail .now) (a .scopes .now) in
+    let y = core (b .result) (a .t) (a .visits .now) (b .last .1 .0) charts (b .last .1 .1 .1 .0) (b .last .1 .1 .0) (b .last .1 .1 .1 .1 .0) in
     row-added y _ _ _ (e .0) (e .1) ∙ aborts x (a .v .0) (taking (b .result) (b .last .1 .0) (b .last .1 .1 .0) (b .last .1 .1 .1 .0) (b .last .1 .1 .1 .1 .0)) (b .ensures)
 
 pub abort-spec : {M : Type 1} → statement M
@@ -54,4 +57,5 @@ abort-spec =
     same-length-2
     same-length-3
     same-length-4
+    same-length-5
     returns)

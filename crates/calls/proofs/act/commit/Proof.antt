@@ -13,11 +13,11 @@ add-requires c κs = search needs
 
 force-requires : tie.Need-force-requires
 force-requires c κs =
-    let s = (c .before .before .before .before .before .before .before .before .before .before .before .before .before .before .before .before .before .before .before .before) in
+    let s = c .before .before .before .before .before .before .before .before .before .before .before .before .before .before .before .before .before .before .before .before .before .before .before .before in
     let a = s .args in
-    let f = (c .before .before .before .before .before .before .before .before .before .before .before .add) in
+    let f = c .before .before .before .before .before .before .before .before .before .before .before .before .before .add in
     let n = rw (← f .ensures .0) at (counters-written (ram (a .c) (a .log .now) (a .tail .now) (a .copy .now)) (Row.commit (a .v .0)) (counters (s .pre .fits))) in
-    fits-again (s .pre .fits) n (f .kept .1 .1 .0) (f .kept .1 .1 .1 .1 .0) (f .kept .1 .1 .1 .0) .sizes
+    fits-again (s .pre .fits) n (f .kept .1 .1 .1 .0) (f .kept .1 .1 .1 .1 .1 .0) (f .kept .1 .1 .1 .1 .0) .sizes
 
 same-length : tie.Need-same-length
 same-length c = search needs
@@ -31,11 +31,14 @@ same-length-3 c = search needs
 same-length-4 : tie.Need-same-length-4
 same-length-4 c = search needs
 
+same-length-5 : tie.Need-same-length-5
+same-length-5 c = search needs
+
 returns : tie.Need-returns
 returns c =
-    let a = (c .before .before .before .before .before .before .before .before .before .before .before .before .before .before .before .before .before .before .before .before .before .before .before .before .before .before .args) in
-    let e = (c .before .before .before .before .before .before .before .before .before .before .before .before .before .before .before .before .before .add .ensures) in
-    λ charts. commits (core (a .c) (a .t) (a .log .now) charts (a .copy .now) (a .tail .now) (a .scopes .now)) _ _ _ _ (e .0) (e .1) (c .before .before .before .before .before .force .ensures)
+    let a = c .before .before .before .before .before .before .before .before .before .before .before .before .before .before .before .before .before .before .before .before .before .before .before .before .before .before .before .before .before .before .args in
+    let e = c .before .before .before .before .before .before .before .before .before .before .before .before .before .before .before .before .before .before .before .add .ensures in
+    λ charts. commits (core (a .c) (a .t) (a .visits .now) (a .log .now) charts (a .copy .now) (a .tail .now) (a .scopes .now)) _ _ _ _ (e .0) (e .1) (c .before .before .before .before .before .force .ensures)
 
 pub commit-spec : {M : Type 1} → statement M
 commit-spec =
@@ -47,4 +50,5 @@ commit-spec =
     same-length-2
     same-length-3
     same-length-4
+    same-length-5
     returns)

@@ -49,7 +49,7 @@ returns c =
     let a = (c .before .before .before .before .before .before .before .before .before .before .before .before .before .before .before .before .before .before .args) in
     let e : 32 * a .page + 32 - 32 * a .page ≡ 32 = omega arith in
     let m = rw (c .before .before .before .before .before .before .before .before .before .before .before .before .before .read-mark .ensures) at (c .before .before .before .before .before .before .before .before .before .before .before .before .up-to-mark .ensures .0) in
-    λ t scopes. flushes (core (a .c) t (a .log .now) (a .charts .now) (a .copy .now) (a .tail .now) scopes) (a .page) _ _ _ m (c .before .before .before .before .before .before .before .before .before .force-up-to .ensures) (rw e at (c .before .before .write-page .ensures))
+    λ t visits scopes. flushes (core (a .c) t visits (a .log .now) (a .charts .now) (a .copy .now) (a .tail .now) scopes) (a .page) _ _ _ m (c .before .before .before .before .before .before .before .before .before .force-up-to .ensures) (rw e at (c .before .before .write-page .ensures))
 
 pub flush-spec : {M : Type 1} → statement M
 flush-spec =

@@ -21,12 +21,15 @@ same-length-3 c = search needs
 same-length-4 : tie.Need-same-length-4
 same-length-4 c = search needs
 
+same-length-5 : tie.Need-same-length-5
+same-length-5 c = search needs
+
 returns : tie.Need-returns
 returns c =
-    let a = (c .before .before .before .before .before .before .before .before .before .before .before .before .before .before .before .before .before .args) in
-    let e = (c .before .before .before .before .before .before .before .before .add .ensures) in
-    λ charts. let x = core (a .c) (a .t) (a .log .now) charts (a .copy .now) (a .tail .now) (a .scopes .now) in row-added x _ _ _ (e .0) (e .1) ∙ hands-over x _ _ _
+    let a = c .before .before .before .before .before .before .before .before .before .before .before .before .before .before .before .before .before .before .before .before .before .args in
+    let e = c .before .before .before .before .before .before .before .before .before .before .add .ensures in
+    λ charts. let x = core (a .c) (a .t) (a .visits .now) (a .log .now) charts (a .copy .now) (a .tail .now) (a .scopes .now) in row-added x _ _ _ (e .0) (e .1) ∙ hands-over x _ _ _
 
 pub hand-over-spec : {M : Type 1} → statement M
 hand-over-spec =
-    tie.close (tie.spec add-requires same-length same-length-2 same-length-3 same-length-4 returns)
+    tie.close (tie.spec add-requires same-length same-length-2 same-length-3 same-length-4 same-length-5 returns)

@@ -23,18 +23,18 @@ has-entry-requires c κs = search needs
 
 returns-3 : tie.Need-returns-3
 unfolding refusalBy
-returns-3 c = λ a. rw (← (c .before .before .before .before .before .is-listed .ensures), (c .before .before .before .before .if1 .left), ← (c .before .before .before .is-cell .ensures), (c .before .before .if2 .left), ← (c .before .has-entry .ensures), (c .if3 .taken))
+returns-3 c = λ a. rw (← (c .before .before .before .before .before .is-listed .ensures), (c .before .before .before .before .if1 .left), ← (c .before .before .before .is-cell .ensures), (c .before .before .if2 .left), ← (c .before .has-entry .ensures _), (c .if3 .taken))
 
 has-room-requires : tie.Need-has-room-requires
 has-room-requires c κs = search needs
 
 returns-4 : tie.Need-returns-4
 unfolding refusalBy
-returns-4 c = λ a. rw (← (c .before .before .before .before .before .before .before .is-listed .ensures), (c .before .before .before .before .before .before .if1 .left), ← (c .before .before .before .before .before .is-cell .ensures), (c .before .before .before .before .if2 .left), ← (c .before .before .before .has-entry .ensures), (c .before .before .if3 .left), ← (c .before .has-room .ensures), (c .if4 .taken))
+returns-4 c = λ a. rw (← (c .before .before .before .before .before .before .before .is-listed .ensures), (c .before .before .before .before .before .before .if1 .left), ← (c .before .before .before .before .before .is-cell .ensures), (c .before .before .before .before .if2 .left), ← (c .before .before .before .has-entry .ensures _), (c .before .before .if3 .left), ← (c .before .has-room .ensures _), (c .if4 .taken))
 
 returns-5 : tie.Need-returns-5
 unfolding refusalBy
-returns-5 c = λ a. rw (← (c .before .before .before .before .before .before .before .is-listed .ensures), (c .before .before .before .before .before .before .if1 .left), ← (c .before .before .before .before .before .is-cell .ensures), (c .before .before .before .before .if2 .left), ← (c .before .before .before .has-entry .ensures), (c .before .before .if3 .left), ← (c .before .has-room .ensures), (c .if4 .left))
+returns-5 c = λ a. rw (← (c .before .before .before .before .before .before .before .is-listed .ensures), (c .before .before .before .before .before .before .if1 .left), ← (c .before .before .before .before .before .is-cell .ensures), (c .before .before .before .before .if2 .left), ← (c .before .before .before .has-entry .ensures _), (c .before .before .if3 .left), ← (c .before .has-room .ensures _), (c .if4 .left))
 
 pub refuse-change-spec : {M : Type 1} → statement M
 refuse-change-spec =

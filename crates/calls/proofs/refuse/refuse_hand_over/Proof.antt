@@ -42,11 +42,11 @@ has-room-requires c κs = search needs
 
 returns-6 : tie.Need-returns-6
 unfolding refusalBy
-returns-6 c = rw (← (c .before .before .before .before .before .before .before .before .before .before .before .before .is-listed .ensures), (c .before .before .before .before .before .before .before .before .before .before .before .if1 .left), ← (c .before .before .before .before .before .before .before .before .before .before .is-listed2 .ensures), (c .before .before .before .before .before .before .before .before .before .if2 .left), ne-eqb _ _ (c .before .before .before .before .before .before .if3 .left), ← (c .before .before .before .before .before .is-cell .ensures), (c .before .before .before .before .if4 .left), ← (c .before .before .before .holds-cell .ensures), (c .before .before .if5 .left), ← (c .before .has-room .ensures), (c .if6 .taken))
+returns-6 c = rw (← (c .before .before .before .before .before .before .before .before .before .before .before .before .is-listed .ensures), (c .before .before .before .before .before .before .before .before .before .before .before .if1 .left), ← (c .before .before .before .before .before .before .before .before .before .before .is-listed2 .ensures), (c .before .before .before .before .before .before .before .before .before .if2 .left), ne-eqb _ _ (c .before .before .before .before .before .before .if3 .left), ← (c .before .before .before .before .before .is-cell .ensures), (c .before .before .before .before .if4 .left), ← (c .before .before .before .holds-cell .ensures), (c .before .before .if5 .left), ← (c .before .has-room .ensures _), (c .if6 .taken))
 
 returns-7 : tie.Need-returns-7
 unfolding refusalBy
-returns-7 c = rw (← (c .before .before .before .before .before .before .before .before .before .before .before .before .is-listed .ensures), (c .before .before .before .before .before .before .before .before .before .before .before .if1 .left), ← (c .before .before .before .before .before .before .before .before .before .before .is-listed2 .ensures), (c .before .before .before .before .before .before .before .before .before .if2 .left), ne-eqb _ _ (c .before .before .before .before .before .before .if3 .left), ← (c .before .before .before .before .before .is-cell .ensures), (c .before .before .before .before .if4 .left), ← (c .before .before .before .holds-cell .ensures), (c .before .before .if5 .left), ← (c .before .has-room .ensures), (c .if6 .left))
+returns-7 c = rw (← (c .before .before .before .before .before .before .before .before .before .before .before .before .is-listed .ensures), (c .before .before .before .before .before .before .before .before .before .before .before .if1 .left), ← (c .before .before .before .before .before .before .before .before .before .before .is-listed2 .ensures), (c .before .before .before .before .before .before .before .before .before .if2 .left), ne-eqb _ _ (c .before .before .before .before .before .before .if3 .left), ← (c .before .before .before .before .before .is-cell .ensures), (c .before .before .before .before .if4 .left), ← (c .before .before .before .holds-cell .ensures), (c .before .before .if5 .left), ← (c .before .has-room .ensures _), (c .if6 .left))
 
 pub refuse-hand-over-spec : {M : Type 1} → statement M
 refuse-hand-over-spec =

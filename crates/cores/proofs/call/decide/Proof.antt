@@ -10,7 +10,8 @@ use Rattle.state.specs.Requests.{callOf}
 use Rattle.state.specs.World.{World, world}
 use Rattle.state.proofs.Cases.{refusal-case}
 use Rattle.calls_model.specs.Perform.{numberOf, performed}
-use Rattle.calls.proofs.Performing.{passed, right-number, when-refused, when-accepted}
+use Rattle.calls.proofs.Performing.{passed, when-refused}
+use Rattle.cores.proofs.Performing.{right-number, when-accepted}
 use borrow.Author.Needs.{needs}
 use Rattle.cores.proofs.call.decide.Statement.{statement}
 use Rattle.cores.proofs.call.decide.Tie as tie
@@ -30,12 +31,19 @@ tail-long : (s : tie.Start) → length (s .args .state .tail) ≡ 1024
 tail-long s = search needs
 
 -- the answer of the checks has the number of every check
-numbered : (c : tie.After-check) → let s = c .before .before .before .before .before .before .before .before .before .before in numberAndValue (c .check .result) ≡ refusedBy (numberOf (given s) (callOf (s .args .request)))
+numbered : (c : tie.After-check) → let s = c .before .before .before .before .before .before .before .before .before .before .before .before .before .before .before .before in numberAndValue (c .check .result) ≡ refusedBy (numberOf (given s) (callOf (s .args .request)))
 numbered c =
-    let s = c .before .before .before .before .before .before .before .before .before .before in
+    let s = c .before .before .before .before .before .before .before .before .before .before .before .before .before .before .before .before in
     let x = s .args in
-    rw (c .before .before .before .control-of .ensures, c .before .before .before .before .before .flat-into .ensures) at (c .check .ensures) ∙
-    ap refusedBy (right-number (x .state) (x .log .now) (x .charts .now) (x .copy .now) (x .table) (callOf (x .request)) (s .pre) (long s))
+    rw (c .before .before .before .before .control-of .ensures, c .before .before .before .counts-of .ensures) at (c .check .ensures) ∙
+    ap refusedBy (right-number (x .state) (x .log .now) (x .charts .now) (x .copy .now) (x .table) (c .before .before .before .before .before .before .before .before .before .visits-into .last .1 .0) (c .before .before .before .before .before .before .flat-into .last .1 .0) (callOf (x .request))
+    (c .before .before .before .before .before .before .before .before .before .visits-into .ensures) (c .before .before .before .before .before .before .flat-into .ensures) (s .pre) (long s))
+
+slice-aggregate-visits-into : tie.Need-slice-aggregate-visits-into
+slice-aggregate-visits-into c = search needs
+
+visits-into-requires : tie.Need-visits-into-requires
+visits-into-requires c κs = search needs
 
 slice-aggregate-flat-into : tie.Need-slice-aggregate-flat-into
 slice-aggregate-flat-into c = search needs
@@ -46,8 +54,14 @@ flat-into-requires c κs = search needs
 control-of-requires : tie.Need-control-of-requires
 control-of-requires c κs = search needs
 
+counts-of-requires : tie.Need-counts-of-requires
+counts-of-requires c κs = search needs
+
 slice-aggregate-check : tie.Need-slice-aggregate-check
 slice-aggregate-check c = search needs
+
+slice-aggregate-check-2 : tie.Need-slice-aggregate-check-2
+slice-aggregate-check-2 c = search needs
 
 check-requires : tie.Need-check-requires
 check-requires c κs = search needs
@@ -55,50 +69,55 @@ check-requires c κs = search needs
 number-of-requires : tie.Need-number-of-requires
 number-of-requires c κs = search needs
 
-refused-requires : tie.Need-refused-requires
-refused-requires c κs = search needs
+out-with-requires : tie.Need-out-with-requires
+out-with-requires c κs = search needs
 
 returns : tie.Need-returns
 unfolding performed
 returns c =
-    let s = c .before .before .before .before .before .before .before .before .before .before .before .before .before in
+    let s = c .before .before .before .before .before .before .before .before .before .before .before .before .before .before .before .before .before .before .before in
     let k = c .before .before .before in
     let other : numberAndValue (k .check .result) .number ≢ 0 = λ z. c .before .if1 .taken (c .before .before .number-of .ensures ∙ z) in
-    rw (c .refused .ensures)
+    rw (c .out-with .ensures)
     (when-refused (given s) (callOf (s .args .request)) _ _ (numbered k) (λ z. other (ap number (numbered k) ∙ z)), inr (refusal-case (k .check .result) other))
 
 slice-aggregate-accept : tie.Need-slice-aggregate-accept
-slice-aggregate-accept c = sym (tail-long (c .before .before .before .before .before .before .before .before .before .before .before .before .before .before .before .before .before))
+slice-aggregate-accept c = search needs
 
 slice-aggregate-accept-2 : tie.Need-slice-aggregate-accept-2
-slice-aggregate-accept-2 c = search needs
+slice-aggregate-accept-2 c = sym (tail-long (c .before .before .before .before .before .before .before .before .before .before .before .before .before .before .before .before .before .before .before .before .before .before .before .before))
+
+slice-aggregate-accept-3 : tie.Need-slice-aggregate-accept-3
+slice-aggregate-accept-3 c = search needs
 
 accept-requires : tie.Need-accept-requires
 accept-requires c κs =
-    let s = c .before .before .before .before .before .before .before .before .before .before .before .before .before .before .before .before .before .before in
+    let s = c .before .before .before .before .before .before .before .before .before .before .before .before .before .before .before .before .before .before .before .before .before .before .before .before .before in
     let x = s .args in
-    let flat = c .before .before .before .before .before .before .before .before .before .before .before .before .before .flat-into in
-    let p = passed (c .before .before .before .before .before .before .before .before .before .before .before .control-of .result) (x .state .tables) (entries (flat .last .1 .0)) (callOf (x .request))
-    (sym (ap number (c .before .before .before .before .before .before .before .before .check .ensures)) ∙ sym (c .before .before .before .before .before .before .before .number-of .ensures) ∙ c .before .before .before .before .before .before .if1 .left) in (
+    let visits = c .before .before .before .before .before .before .before .before .before .before .before .before .before .before .before .before .before .before .visits-into in
+    let flat = c .before .before .before .before .before .before .before .before .before .before .before .before .before .before .before .flat-into in
+    let p = passed (c .before .before .before .before .before .before .before .before .before .before .before .before .before .control-of .result) (c .before .before .before .before .before .before .before .before .before .before .before .before .counts-of .result) (visits .last .1 .0) (entries (flat .last .1 .0)) (callOf (x .request))
+    (sym (ap number (c .before .before .before .before .before .before .before .before .before .check .ensures)) ∙ sym (c .before .before .before .before .before .before .before .before .number-of .ensures) ∙ c .before .before .before .before .before .before .before .if1 .left) in (
       record {
         fits = record {
           sizes = record { log-long = s .pre .log-long; tail-long = tail-long s; few = p .within .few; room = p .within .room };
           copy-long = s .pre .copy-long;
         };
-        ready = record { range = p .within .range; long = flat .kept .1 .0 };
+        ready = record { range = p .within .range; visits-long = visits .kept .1 .0; long = flat .kept .1 .0 };
+        running = p .running;
         free = p .free;
       },
       s .pre .charts-long,
     )
 
-new-state-requires : tie.Need-new-state-requires
-new-state-requires c κs = search needs
+slice-aggregate-out-after : tie.Need-slice-aggregate-out-after
+slice-aggregate-out-after c = search needs
 
-slice-aggregate-table-from : tie.Need-slice-aggregate-table-from
-slice-aggregate-table-from c = search needs
+slice-aggregate-out-after-2 : tie.Need-slice-aggregate-out-after-2
+slice-aggregate-out-after-2 c = search needs
 
-table-from-requires : tie.Need-table-from-requires
-table-from-requires c κs = search needs
+out-after-requires : tie.Need-out-after-requires
+out-after-requires c κs = search needs
 
 same-length : tie.Need-same-length
 same-length c = search needs
@@ -112,35 +131,42 @@ same-length-3 c = search needs
 returns-2 : tie.Need-returns-2
 unfolding performed
 returns-2 c =
-    let s = c .before .before .before .before .before .before .before .before .before .before .before .before .before .before .before .before .before .before .before .before .before .before .before .before .before .before .before .before .before .before in
+    let s = c .before .before .before .before .before .before .before .before .before .before .before .before .before .before .before .before .before .before .before .before .before .before .before .before .before .before .before .before .before .before .before .before .before .before .before .before .before .before in
     let x = s .args in
-    let a = c .before .before .before .before .before .before .before .before .before .before .before .accept in
-    let k = c .before .before .before .before .before .before .before .before .before .before .before .before .before .before .before .before .before .before .before .before in (
-      rw (c .before .before .new-state .ensures, c .table-from .ensures)
-          (rw (c .before .before .before .before .before .before .before .before .before .before .before .before .before .before .before .before .before .before .before .before .before .before .before .control-of .ensures) at (a .ensures .0) ∙
-          when-accepted (x .state) (x .log .now) (x .charts .now) (x .copy .now) (x .table) _ (callOf (x .request)) _ (c .before .before .before .before .before .before .before .before .before .before .before .before .before .before .before .before .before .before .before .before .before .before .before .before .before .flat-into .ensures)
-          (sym (ap number (numbered k)) ∙ sym (c .before .before .before .before .before .before .before .before .before .before .before .before .before .before .before .before .before .before .before .number-of .ensures) ∙ c .before .before .before .before .before .before .before .before .before .before .before .before .before .before .before .before .before .before .if1 .left)),
-      a .ensures .1,
+    let a = c .before .before .before .before .before .before .before .before .before .before .before .before .accept in
+    let visits = c .before .before .before .before .before .before .before .before .before .before .before .before .before .before .before .before .before .before .before .before .before .before .before .before .before .before .before .before .before .before .before .visits-into in
+    let flat = c .before .before .before .before .before .before .before .before .before .before .before .before .before .before .before .before .before .before .before .before .before .before .before .before .before .before .before .before .flat-into in
+    let k = c .before .before .before .before .before .before .before .before .before .before .before .before .before .before .before .before .before .before .before .before .before .before in (
+      rw (c .out-after .ensures)
+          (rw (c .before .before .before .before .before .before .before .before .before .before .before .before .before .before .before .before .before .before .before .before .before .before .before .before .before .before .control-of .ensures, c .before .before .before .before .before .before .before .before .before .before .before .before .before .before .before .before .before .before .before .before .before .before .before .before .before .counts-of .ensures) at (a .ensures .is) ∙
+          when-accepted (x .state) (x .log .now) (x .charts .now) (x .copy .now) (x .table) (visits .last .1 .0) (flat .last .1 .0) (callOf (x .request)) (visits .ensures) (flat .ensures) _
+          (sym (ap number (numbered k)) ∙ sym (c .before .before .before .before .before .before .before .before .before .before .before .before .before .before .before .before .before .before .before .before .before .number-of .ensures) ∙ c .before .before .before .before .before .before .before .before .before .before .before .before .before .before .before .before .before .before .before .before .if1 .left)),
+      rw (c .out-after .ensures) (a .ensures .case),
     )
 
 pub decide-spec : {M : Type 1} → statement M
 decide-spec =
     tie.close
     (tie.spec
+    slice-aggregate-visits-into
+    visits-into-requires
     slice-aggregate-flat-into
     flat-into-requires
     control-of-requires
+    counts-of-requires
     slice-aggregate-check
+    slice-aggregate-check-2
     check-requires
     number-of-requires
-    refused-requires
+    out-with-requires
     returns
     slice-aggregate-accept
     slice-aggregate-accept-2
+    slice-aggregate-accept-3
     accept-requires
-    new-state-requires
-    slice-aggregate-table-from
-    table-from-requires
+    slice-aggregate-out-after
+    slice-aggregate-out-after-2
+    out-after-requires
     same-length
     same-length-2
     same-length-3

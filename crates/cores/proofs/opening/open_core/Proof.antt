@@ -1,9 +1,14 @@
 -- `cores::opening::open_core` meets its contract. Assumes nothing.
-use mathlib.Core.Path.{_≡_}
+use mathlib.Core.Path.{_≡_, refl, sym, _∙_}
+use mathlib.Core.Bool.{true}
 use native.Mathlib.Omega.{arith}
 use lib.ListN.{length}
+use borrow.Author.Tests.{not-true, not-false}
+use Rattle.state.specs.World.{world}
+use Rattle.state.specs.Functions.{Opens}
+use Rattle.cores.proofs.Lengths.{fitting, fit, wrong-kept, right-kept}
+use Rattle.cores.proofs.Openings.{open-wrong, opened}
 use borrow.Author.Needs.{needs}
-use Rattle.cores.proofs.Openings.{opening-kept}
 use Rattle.cores.proofs.opening.open_core.Statement.{statement}
 use Rattle.cores.proofs.opening.open_core.Tie as tie
 
@@ -11,11 +16,46 @@ use Rattle.cores.proofs.opening.open_core.Tie as tie
 long : (s : tie.Start) → length (s .args .t) ≡ 64
 long s = search needs
 
-open-requires : tie.Need-open-requires
-open-requires c κs = search needs
+-- the lengths are right where the test is left
+right : (c : tie.Else1) → let x = c .before .before .before .before .before .args in fitting (length (x .log .now)) (length (x .charts .now)) (length (x .copy .now)) (x .n) ≡ true
+right c = sym (c .before .lengths-fit .ensures) ∙ not-false _ (c .if1 .left)
 
-with-table-requires : tie.Need-with-table-requires
-with-table-requires c κs = search needs
+lengths-fit-requires : tie.Need-lengths-fit-requires
+lengths-fit-requires c κs = search needs
+
+out-with-requires : tie.Need-out-with-requires
+out-with-requires c κs = search needs
+
+returns : tie.Need-returns
+returns c =
+    let s = c .before .before .before .before .before .before in
+    let x = s .args in
+    rw (c .out-with .ensures)
+    (wrong-kept (Opens (x .fuse)) (x .state) (x .log .now) (x .charts .now) (x .copy .now) (x .n) (x .t) (long s) (sym (c .before .before .lengths-fit .ensures) ∙ not-true _ (c .before .if1 .taken)) (open-wrong (x .fuse)))
+
+slice-aggregate-open : tie.Need-slice-aggregate-open
+slice-aggregate-open c = search needs
+
+slice-aggregate-open-2 : tie.Need-slice-aggregate-open-2
+slice-aggregate-open-2 c = search needs
+
+slice-aggregate-open-3 : tie.Need-slice-aggregate-open-3
+slice-aggregate-open-3 c = search needs
+
+open-requires : tie.Need-open-requires
+open-requires c κs =
+    let x = c .before .before .before .before .before .before .before .before .before .before .before .args in
+    let lent = fit (length (x .log .now)) (length (x .charts .now)) (length (x .copy .now)) (x .n) (right (c .before .before .before .before .before .before)) .0 in
+    record { log-long = lent .log-long; charts-long = lent .charts-long; copy-long = lent .copy-long; tail-long = refl; visits-long = refl; scopes-long = refl }
+
+slice-aggregate-out-after : tie.Need-slice-aggregate-out-after
+slice-aggregate-out-after c = search needs
+
+slice-aggregate-out-after-2 : tie.Need-slice-aggregate-out-after-2
+slice-aggregate-out-after-2 c = search needs
+
+out-after-requires : tie.Need-out-after-requires
+out-after-requires c κs = search needs
 
 same-length : tie.Need-same-length
 same-length c = search needs
@@ -26,14 +66,31 @@ same-length-2 c = search needs
 same-length-3 : tie.Need-same-length-3
 same-length-3 c = search needs
 
-returns : tie.Need-returns
-returns c =
-    let s = c .before .before .before .before .before .before .before .before .before .before .before .before in
+returns-2 : tie.Need-returns-2
+returns-2 c =
+    let s = c .before .before .before .before .before .before .before .before .before .before .before .before .before .before .before .before .before .before .before .before .before .before in
     let x = s .args in
-    let o = c .before .before .before .before .before .«open» in
-    rw (c .with-table .ensures)
-    (opening-kept (x .state) (x .log .now) (x .charts .now) (x .copy .now) (x .n) (x .t) (long s) (record { state = o .result .state; answer = o .result .answer }) (o .result .clears)
-    (o .last .1 .0) (x .charts .now) (o .last .1 .1 .1 .0) (x .fuse) (λ i. omega (arith, c .before .before .before .before .before .before .before .before .before .before .slice-known2 .given i)) (o .ensures .0) (o .ensures .1))
+    let w = world (x .state) (x .log .now) (x .charts .now) (x .copy .now) (x .t) in
+    let o = c .before .before .before .before .before .before .before .before .before .before .«open» in
+    rw (c .out-after .ensures)
+    (right-kept (Opens (x .fuse)) (x .state) (x .log .now) (x .charts .now) (x .copy .now) (x .n) (x .t) (long s) (right (c .before .before .before .before .before .before .before .before .before .before .before .before .before .before .before .before .before)) _ _
+    (opened (x .fuse) w (λ i. omega (arith, c .before .before .before .before .before .before .before .before .before .before .before .before .before .before .before .before .before .before .before .before .slice-known2 .given i)) _ (o .ensures .is) (o .ensures .case)))
 
 pub open-core-spec : {M : Type 1} → statement M
-open-core-spec = tie.close (tie.spec open-requires with-table-requires same-length same-length-2 same-length-3 returns)
+open-core-spec =
+    tie.close
+    (tie.spec
+    lengths-fit-requires
+    out-with-requires
+    returns
+    slice-aggregate-open
+    slice-aggregate-open-2
+    slice-aggregate-open-3
+    open-requires
+    slice-aggregate-out-after
+    slice-aggregate-out-after-2
+    out-after-requires
+    same-length
+    same-length-2
+    same-length-3
+    returns-2)

@@ -1,38 +1,36 @@
 -- `recovery::backward::abort_all` meets its contract.
 -- The loop's invariant: the first `n` visits make of the journal what all make of the journal at the start. Assumes nothing.
 use Prim.Native.Nat.{_-_, _≤_}
-use mathlib.Core.Path.{_≡_, refl, sym, _∙_}
+use mathlib.Core.Path.{_≡_, refl, ap, sym, _∙_}
 use native.Mathlib.Omega.{arith}
 use lib.ListN.{length, getD}
 use Rattle.book.specs.Rows.{Row}
-use Rattle.tables_model.specs.Visits.{vacant}
+use Rattle.tables_model.specs.declared.Active.{Active}
+use Rattle.tables_model.specs.Visits.{actives, vacant}
 use Rattle.undo.proofs.Counters.{counters, counters-written, fits-again}
-use Rattle.undo.specs.Writing.{ram, Fits}
+use Rattle.undo.specs.Writing.{ram, Fits, written}
 use Rattle.recovery_model.specs.Backward.{abortAll}
-use Rattle.recovery.proofs.BackwardSteps.{listing, abort-turn, abort-end, abort-listed}
+use Rattle.recovery.proofs.BackwardSteps.{abort-turn, abort-end}
 use Rattle.recovery.proofs.backward.abort_all.Statement.{statement}
 use Rattle.recovery.proofs.backward.abort_all.Tie as tie
 
 abbrev Inv-loop : tie.InvT-loop
-Inv-loop log₀ tail₀ copy₀ active d₀ n₀ log tail copy d n =
+Inv-loop log₀ tail₀ copy₀ visits count d₀ n₀ log tail copy d n =
     (n ≤ 16)
     × Fits d (length log) (length tail) (length copy)
-    × (abortAll n₀ (listing active) (ram d₀ log₀ tail₀ copy₀) ≡ abortAll n (listing active) (ram d log tail copy))
+    × (abortAll n₀ (actives visits) (ram d₀ log₀ tail₀ copy₀) ≡ abortAll n (actives visits) (ram d log tail copy))
 
 abbrev μ-loop : tie.MeasureT-loop
-μ-loop log₀ tail₀ copy₀ active d₀ n₀ log tail copy d n = n
+μ-loop log₀ tail₀ copy₀ visits count d₀ n₀ log tail copy d n = n
 
 loop-holds : tie.Need-loop-holds Inv-loop μ-loop
-loop-holds c = let s = c .before .before .before .before in (s .pre .1, s .pre .0, refl)
+loop-holds c = let s = c .before .before .before .before in (s .pre .2, s .pre .0, refl)
 
 sub-n : tie.Need-sub-n Inv-loop μ-loop
 sub-n c = omega arith
 
-mul-a : tie.Need-mul-a Inv-loop μ-loop
-mul-a c = omega arith
-
-array-copy-out-a : tie.Need-array-copy-out-a Inv-loop μ-loop
-array-copy-out-a c = omega arith
+active-at-requires : tie.Need-active-at-requires Inv-loop μ-loop
+active-at-requires c κs = record { long = c .before .before .before .before .before .before .pre .1; below = omega arith }
 
 write-requires : tie.Need-write-requires Inv-loop μ-loop
 write-requires c κs = c .before .before .before .before .before .before .loop .inv .1
@@ -42,12 +40,18 @@ loop-less c = omega arith
 
 loop-again : tie.Need-loop-again Inv-loop μ-loop
 loop-again c =
-    let l = c .before .before .before .before .before .before .before .before .before .before .before .before .before in
-    let t = l .before .before .before .before .before .args .t in
     let w = c .before .before .before .before .before .before .write in
-    let m = ram (l .loop .d) (l .loop .log) (l .loop .tail) (l .loop .copy) in
-    let n = rw (← (w .ensures)) at (counters-written m (Row.abort (getD (t .active) (l .loop .n - 1) vacant .visit .0)) (counters (l .loop .inv .1))) in
-    (omega arith, fits-again (l .loop .inv .1) n (w .kept .1 .0) (w .kept .1 .1 .0) (w .kept .1 .1 .1 .0), rw (w .ensures) (l .loop .inv .2 ∙ abort-turn _ m (l .loop .n) (c .before .before .before .before .before .before .before .before .before .before .before .before .loop-test .taken)))
+    let visit = c .before .before .before .before .before .before .before .before .before .before .before in
+    let at = visit .before .before in
+    let l = at .loop in
+    let vs = actives (at .before .before .before .before .before .args .visits .now) in
+    let m = ram (l .d) (l .log) (l .tail) (l .copy) in
+    let e = w .ensures ∙ ap (λ (a : Active). written m (Row.abort (a .visit .0))) (visit .active-at .ensures) in
+    let n = rw (← e) at (counters-written m (Row.abort (getD vs (l .n - 1) vacant .visit .0)) (counters (l .inv .1))) in (
+      omega arith,
+      fits-again (l .inv .1) n (w .kept .1 .0) (w .kept .1 .1 .0) (w .kept .1 .1 .1 .0),
+      rw e (l .inv .2 ∙ abort-turn vs m (l .n) (visit .before .loop-test .taken)),
+    )
 
 same-length : tie.Need-same-length Inv-loop μ-loop
 same-length c = c .before .loop .inv .1 .sizes .log-long ∙ sym (c .before .before .before .before .before .before .pre .0 .sizes .log-long)
@@ -59,7 +63,7 @@ same-length-3 : tie.Need-same-length-3 Inv-loop μ-loop
 same-length-3 c = c .before .loop .inv .1 .copy-long ∙ sym (c .before .before .before .before .before .before .pre .0 .copy-long)
 
 returns : tie.Need-returns Inv-loop μ-loop
-returns c = let l = c .before .loop in sym (abort-listed _ _ _ ∙ l .inv .2 ∙ abort-end _ _ (l .n) (omega arith))
+returns c = let l = c .before .loop in sym (l .inv .2 ∙ abort-end _ _ (l .n) (omega arith))
 
 pub abort-all-spec : {M : Type 1} → statement M
 abort-all-spec =
@@ -69,8 +73,7 @@ abort-all-spec =
     μ-loop
     loop-holds
     sub-n
-    mul-a
-    array-copy-out-a
+    active-at-requires
     write-requires
     loop-less
     loop-again

@@ -9,12 +9,10 @@ highest-requires : tie.Need-highest-requires
 highest-requires c κs = search needs
 
 before-found-requires : tie.Need-before-found-requires
-before-found-requires c κs =
-    let s = c .before .before .before in
-    (s .pre .0, reaches _ _ _ _ _ (c .highest .ensures) (s .pre .1 .range .used) (s .pre .1 .long))
+before-found-requires c κs = let s = c .before .before .before in (s .pre .0, reaches _ _ _ _ _ (c .highest .ensures) (s .pre .1 .within) (s .pre .1 .long))
 
 returns : tie.Need-returns
-returns c = c .before-found .ensures ∙ rw (c .before .highest .ensures)
+returns c = λ visits. c .before-found .ensures ∙ rw (c .before .highest .ensures)
 
 pub before-highest-spec : {M : Type 1} → statement M
 before-highest-spec = tie.close (tie.spec highest-requires before-found-requires returns)

@@ -25,22 +25,22 @@ enum-told-5 : tie.Need-enum-told-5
 enum-told-5 c = search needs
 
 returns : tie.Need-returns
-returns c = search needs
+returns c = λ visits. search needs
 
 returns-2 : tie.Need-returns-2
-returns-2 c = search needs
+returns-2 c = λ visits. search needs
 
 returns-3 : tie.Need-returns-3
-returns-3 c = search needs
+returns-3 c = λ visits. search needs
 
 returns-4 : tie.Need-returns-4
-returns-4 c = rw (c .before .before .row .given .1) (c .before-highest .ensures)
+returns-4 c = λ visits. rw (c .before .before .row .given .1) (c .before-highest .ensures visits)
 
 returns-5 : tie.Need-returns-5
-returns-5 c = search needs
+returns-5 c = λ visits. search needs
 
 returns-6 : tie.Need-returns-6
-returns-6 c = search needs
+returns-6 c = λ visits. search needs
 
 pub before-undone-spec : {M : Type 1} → statement M
 before-undone-spec =

@@ -1,49 +1,33 @@
 -- `recovery::open::open` meets its contract. Assumes nothing.
-use mathlib.Core.Path.{refl, sym, ap, _∙_}
-use lib.ListN.{length}
-use borrow.Author.Tests.{not-true, not-false}
-use mathlib.Core.Logic.{inr}
+use mathlib.Core.Path.{ap, _∙_}
 use borrow.Author.Needs.{needs}
-use Rattle.recovery_model.specs.Openings.{checkedBy, opensBy}
-use Rattle.recovery_model.specs.Scan.{Scanned}
+use Rattle.recovery_model.specs.Openings.{checkedBy}
 use Rattle.recovery.proofs.Bounds.{scanned-bounded}
-use Rattle.recovery.proofs.Sizes.{Lengths, lengths-are}
+use Rattle.recovery.proofs.Settling.{opening-as}
 use Rattle.recovery.proofs.open.open.Statement.{statement}
 use Rattle.recovery.proofs.open.open.Tie as tie
 
-lengths-fit-requires : tie.Need-lengths-fit-requires
-lengths-fit-requires c κs = search needs
-
-refused-requires : tie.Need-refused-requires
-refused-requires c κs = search needs
-
-returns : tie.Need-returns
-unfolding opensBy
-returns c =
-    let f = c .before .before .lengths-fit in
-    (λ table h. rw (h, c .refused .ensures, ← (f .ensures), not-true (f .result) (c .before .if1 .taken)), inr (rw (c .refused .ensures)))
-
-slice-aggregate-scan-log : tie.Need-slice-aggregate-scan-log
-slice-aggregate-scan-log c = search needs
-
--- past the test of the lengths
-lengths : (c : tie.Else1) → let a = c .before .before .before .before .before .args in Lengths (length (a .log .now)) (length (a .charts .now)) (length (a .copy .now))
-lengths c =
-    let a = c .before .before .before .before .before .args in
-    lengths-are _ _ _ (a .scopes) (sym (c .before .lengths-fit .ensures) ∙ not-false (c .before .lengths-fit .result) (c .if1 .left))
-
 scan-log-requires : tie.Need-scan-log-requires
-scan-log-requires c κs = (lengths (c .before .before) .log, refl)
-
-slice-aggregate-open-scanned : tie.Need-slice-aggregate-open-scanned
-slice-aggregate-open-scanned c = search needs
+scan-log-requires c κs = search needs
 
 open-scanned-requires : tie.Need-open-scanned-requires
 open-scanned-requires c κs =
-    let s = c .before .before .before .before .before .before .before .before .before .before .before .before .args in
-    let b = rw (← (c .before .before .before .before .scan-log .ensures)) at (scanned-bounded (s .log .now)) in
-    let l = lengths (c .before .before .before .before .before .before .before) in
-    (record { log-long = l .log; copy-long = l .copy; scopes-long = c .before .before .before .before .scan-log .kept .1 .0; rows = b .rows; range = b .range }, (b .bad, l .charts))
+    let scan = c .before .before .before .before .before .before .before .before .before in
+    let n = scan .scan-log in
+    let s = scan .before .before .before .before .before .before .before .before .before .before in
+    let l = s .pre in
+    let b = rw (← (n .ensures)) at (scanned-bounded (s .args .log .now)) in (
+      record {
+        log-long = l .log-long;
+        copy-long = l .copy-long;
+        tail-long = l .tail-long;
+        visits-long = n .kept .1 .0 ∙ l .visits-long;
+        scopes-long = n .kept .1 .1 .0 ∙ l .scopes-long;
+        rows = b .rows;
+        range = b .range;
+      },
+      (b .bad, l .charts-long),
+    )
 
 same-length : tie.Need-same-length
 same-length c = search needs
@@ -51,27 +35,31 @@ same-length c = search needs
 same-length-2 : tie.Need-same-length-2
 same-length-2 c = search needs
 
-returns-2 : tie.Need-returns-2
-unfolding opensBy
-returns-2 c =
-    let a = c .before .before .before .before .before .before .before .before .before .before .before .before .before .before .before .before .before .before .args in (
-      λ table h.
-          rw (h, ← (c .before .before .before .before .before .before .before .before .before .before .before .before .before .before .lengths-fit .ensures), not-false (c .before .before .before .before .before .before .before .before .before .before .before .before .before .before .lengths-fit .result) (c .before .before .before .before .before .before .before .before .before .before .before .before .before .if1 .left))
-          (c .before .before .before .before .before .open-scanned .ensures .0 table ∙ ap (λ (s : Scanned). checkedBy (a .fuse) (a .log .now) (a .charts .now) s) (c .before .before .before .before .before .before .before .before .before .before .scan-log .ensures)),
-      c .before .before .before .before .before .open-scanned .ensures .1,
-    )
+same-length-3 : tie.Need-same-length-3
+same-length-3 c = search needs
+
+same-length-4 : tie.Need-same-length-4
+same-length-4 c = search needs
+
+same-length-5 : tie.Need-same-length-5
+same-length-5 c = search needs
+
+returns : tie.Need-returns
+returns c =
+    let opened = c .before .before .before .before .before .before .before .before .before .before in
+    let scan = opened .before .before .before .before .before .before .before .before .before .before in
+    let a = scan .before .before .before .before .before .before .before .before .before .before .args in
+    opening-as (opened .open-scanned .ensures) (ap (checkedBy (a .fuse) (a .log .now) (a .charts .now)) (scan .scan-log .ensures))
 
 pub open-spec : {M : Type 1} → statement M
 open-spec =
     tie.close
     (tie.spec
-    lengths-fit-requires
-    refused-requires
-    returns
-    slice-aggregate-scan-log
     scan-log-requires
-    slice-aggregate-open-scanned
     open-scanned-requires
     same-length
     same-length-2
-    returns-2)
+    same-length-3
+    same-length-4
+    same-length-5
+    returns)

@@ -1,9 +1,10 @@
 -- `recovery::open::recover` meets its contract. Assumes nothing.
-use mathlib.Core.Path.{refl, sym, _∙_}
+use mathlib.Core.Path.{sym, _∙_}
 use borrow.Author.Needs.{needs}
 use Rattle.tables_model.specs.Rows.{index}
 use Rattle.journal.proofs.Shifts.{copied}
 use Rattle.recovery.proofs.BackwardSteps.{counters-backward}
+use Rattle.recovery.proofs.Settling.{opening-as}
 use Rattle.recovery.proofs.open.recover.Statement.{statement}
 use Rattle.recovery.proofs.open.recover.Tie as tie
 
@@ -13,37 +14,79 @@ copy-requires c κs = search needs
 redo-requires : tie.Need-redo-requires
 redo-requires c κs = search needs
 
-slice-aggregate-backward : tie.Need-slice-aggregate-backward
-slice-aggregate-backward c = search needs
+clear-requires : tie.Need-clear-requires
+clear-requires c κs = search needs
 
 backward-requires : tie.Need-backward-requires
 backward-requires c κs =
-    let s = c .before .before .before .before .before .before .before .before .before .before .before .before .before .before .before .before .before .before in
-    let p = s .pre .0 in
-    (record { log-long = p .log-long; copy-long = c .before .before .before .before .before .before .redo .kept .1 .1 .0 ∙ c .before .before .before .before .before .before .before .before .before .before .before .copy .kept .1 .0 ∙ p .copy-long; scopes-long = p .scopes-long; rows = p .rows; range = p .range }, refl)
+    let cut = c .before .before .before .before .before .before .before in
+    let redone = cut .before .before .before .before in
+    let loaded = redone .before .before .before .before .before in
+    let p = loaded .before .before .before .before .before .before .before .before .before .pre .0 in (
+      record {
+        log-long = p .log-long;
+        copy-long = redone .redo .kept .1 .1 .0 ∙ loaded .copy .kept .1 .0 ∙ p .copy-long;
+        tail-long = cut .clear .kept .0 ∙ p .tail-long;
+        visits-long = p .visits-long;
+        scopes-long = p .scopes-long;
+        rows = p .rows;
+        range = p .range;
+      },
+      cut .clear .ensures ∙ rw (p .tail-long),
+    )
 
 settle-requires : tie.Need-settle-requires
 settle-requires c κs =
-    let s = c .before .before .before .before .before .before .before .before .before .before .before .before .before .before .before .before .before .before .before .before .before .before .before .before .before .before .before in
-    let w = c .before .before .before .before .before .before .before .before .backward in
+    let back = c .before .before .before .before .before .before .before .before .before .before .before .before in
+    let cut = back .before .before .before .before .before .before .before .before in
+    let redone = cut .before .before .before .before in
+    let loaded = redone .before .before .before .before .before in
+    let s = loaded .before .before .before .before .before .before .before .before .before in
     let a = s .args in
-    let n = rw (← (w .ensures)) at (counters-backward (a .fuse) (a .s .rows) (index (a .s .tables) (a .scopes .now)) (a .log .now) (c .before .before .before .before .before .before .before .before .before .before .before .before .before .before .before .redo .last .1 .1 .0) (s .pre .0 .rows)) in
-    (n .room, w .kept .1 .1 .1 .1 .0 ∙ c .before .before .before .before .before .before .before .before .before .before .before .before .before .before .before .redo .kept .1 .1 .0 ∙ c .before .before .before .before .before .before .before .before .before .before .before .before .before .before .before .before .before .before .before .before .copy .kept .1 .0 ∙ s .pre .0 .copy-long)
+    let p = s .pre .0 in
+    let k = back .backward .kept .1 .1 in
+    let n = rw (← (back .backward .ensures)) at
+    (counters-backward (a .fuse) (a .s .rows) (index (a .s .counts) (a .visits .now) (a .scopes .now)) (a .log .now) (redone .redo .last .1 .1 .0) (p .rows)) in (
+      (n .few, n .room),
+      (
+        k .1 .1 .0 ∙ redone .redo .kept .1 .1 .0 ∙ loaded .copy .kept .1 .0 ∙ p .copy-long,
+        k .1 .0 ∙ cut .clear .kept .0 ∙ p .tail-long,
+        p .visits-long,
+        k .1 .1 .1 .1 .0 ∙ p .scopes-long,
+      ),
+    )
 
 same-length : tie.Need-same-length
 same-length c = search needs
 
 same-length-2 : tie.Need-same-length-2
-same-length-2 c = c .before .before .settle .kept .1 .1 .1 .1 .0 ∙ c .before .before .before .before .before .before .before .before .before .before .before .backward .kept .1 .1 .1 .1 .0 ∙ c .before .before .before .before .before .before .before .before .before .before .before .before .before .before .before .before .before .before .redo .kept .1 .1 .0 ∙ c .before .before .before .before .before .before .before .before .before .before .before .before .before .before .before .before .before .before .before .before .before .before .before .copy .kept .1 .0
+same-length-2 c =
+    let settled = c .before .before .before .before .before .before .before .before in
+    let back = settled .before .before .before .before .before .before .before .before .before .before .before .before .before in
+    let redone = back .before .before .before .before .before .before .before .before .before .before .before .before in
+    settled .settle .kept .1 .1 .1 .0 ∙ back .backward .kept .1 .1 .1 .1 .0 ∙ redone .redo .kept .1 .1 .0 ∙ redone .before .before .before .before .before .copy .kept .1 .0
 
 same-length-3 : tie.Need-same-length-3
-same-length-3 c = search needs
+same-length-3 c =
+    let settled = c .before .before .before .before .before .before .before .before in
+    let back = settled .before .before .before .before .before .before .before .before .before .before .before .before .before in
+    settled .settle .kept .1 .1 .1 .1 .0 ∙ back .backward .kept .1 .1 .1 .0 ∙ back .before .before .before .before .before .before .before .before .clear .kept .0
+
+same-length-4 : tie.Need-same-length-4
+same-length-4 c = search needs
+
+same-length-5 : tie.Need-same-length-5
+same-length-5 c = search needs
 
 returns : tie.Need-returns
 returns c =
-    let s = c .before .before .before .before .before .before .before .before .before .before .before .before .before .before .before .before .before .before .before .before .before .before .before .before .before .before .before .before .before .before in
-    let loaded = c .before .before .before .before .before .before .before .before .before .before .before .before .before .before .before .before .before .before .before .before .before .before .before .copy .ensures .1 ∙ copied (s .args .charts .now) (s .args .copy .now) (s .pre .0 .copy-long ∙ sym (s .pre .1)) in
-    (λ table. c .before .before .settle .ensures .0 _ _ table ∙ rw (c .before .before .before .before .before .before .before .before .before .before .before .backward .ensures, c .before .before .before .before .before .before .before .before .before .before .before .before .before .before .before .before .before .before .redo .ensures, loaded), c .before .before .settle .ensures .1)
+    let settled = c .before .before .before .before .before .before .before .before in
+    let back = settled .before .before .before .before .before .before .before .before .before .before .before .before .before in
+    let redone = back .before .before .before .before .before .before .before .before .before .before .before .before in
+    let loaded = redone .before .before .before .before .before in
+    let s = loaded .before .before .before .before .before .before .before .before .before in
+    let is = loaded .copy .ensures .1 ∙ copied (s .args .charts .now) (s .args .copy .now) (s .pre .0 .copy-long ∙ sym (s .pre .1)) in
+    opening-as (settled .settle .ensures _ _) (rw (back .backward .ensures, redone .redo .ensures, is))
 
 pub recover-spec : {M : Type 1} → statement M
 recover-spec =
@@ -51,10 +94,12 @@ recover-spec =
     (tie.spec
     copy-requires
     redo-requires
-    slice-aggregate-backward
+    clear-requires
     backward-requires
     settle-requires
     same-length
     same-length-2
     same-length-3
+    same-length-4
+    same-length-5
     returns)

@@ -1,26 +1,35 @@
 -- `recovery::open::settle` meets its contract. Assumes nothing.
-use mathlib.Core.Logic.{inl, inr}
-use mathlib.Core.Path.{refl}
+use mathlib.Core.Path.{_∙_}
 use borrow.Author.Needs.{needs}
 use Rattle.recovery_model.specs.Openings.{settledOpening}
+use Rattle.recovery.proofs.Settling.{opening-refused, opening-ready}
 use Rattle.recovery.proofs.open.settle.Statement.{statement}
 use Rattle.recovery.proofs.open.settle.Tie as tie
 
 enum-told : tie.Need-enum-told
 enum-told c = search needs
 
-closed-by-requires : tie.Need-closed-by-requires
-closed-by-requires c κs = search needs
+clear-ram-requires : tie.Need-clear-ram-requires
+clear-ram-requires c κs = search needs
 
 same-length : tie.Need-same-length
 same-length c = search needs
 
+same-length-2 : tie.Need-same-length-2
+same-length-2 c = search needs
+
+same-length-3 : tie.Need-same-length-3
+same-length-3 c = search needs
+
+same-length-4 : tie.Need-same-length-4
+same-length-4 c = search needs
+
 returns : tie.Need-returns
 unfolding settledOpening
-returns c = (
-  λ log charts table. rw (c .before .before .before .before .enum-told .given .1, c .before .before .closed-by .ensures .0, c .before .before .closed-by .ensures .1),
-  inr (rw (c .before .before .closed-by .ensures .0)),
-)
+returns c =
+    let closed = c .before .before .before .before .before .before .before .before in
+    let z = closed .clear-ram .ensures in
+    λ log charts. opening-refused _ _ log charts _ _ _ _ (rw (z .0)) (z .1) (rw (z .0, closed .before .before .before .before .before .enum-told .given .1))
 
 enum-told-2 : tie.Need-enum-told-2
 enum-told-2 c = search needs
@@ -28,22 +37,44 @@ enum-told-2 c = search needs
 rows-written-requires : tie.Need-rows-written-requires
 rows-written-requires c κs = search needs
 
-opened-state-requires : tie.Need-opened-state-requires
-opened-state-requires c κs = search needs
+clear-requires : tie.Need-clear-requires
+clear-requires c κs = search needs
+
+clear-requires-2 : tie.Need-clear-requires-2
+clear-requires-2 c κs = search needs
+
+same-length-5 : tie.Need-same-length-5
+same-length-5 c = search needs
+
+same-length-6 : tie.Need-same-length-6
+same-length-6 c = search needs
 
 returns-2 : tie.Need-returns-2
-unfolding settledOpening
-returns-2 c = (λ log charts table. rw (c .opened-state .ensures, c .before .rows-written .ensures, c .before .before .enum-told2 .given .1), inl refl)
+returns-2 c =
+    let scopes = c .before .before in
+    let visits = scopes .before .before .before .before in
+    let counted = visits .before .before in
+    let s = counted .before .before .before .before .before .before .before in
+    let a = s .args in
+    let p = s .pre in
+    λ log charts. opening-ready (a .c) (a .rows) (a .begun) _ log charts _ _ _ _ (counted .before .enum-told2 .given .1) (p .0 .0) (p .0 .1)
+    (counted .rows-written .ensures) (visits .clear .ensures ∙ rw (p .1 .2)) (scopes .clear2 .ensures ∙ rw (p .1 .3))
 
 pub settle-spec : {M : Type 1} → statement M
 settle-spec =
     tie.close
     (tie.spec
     enum-told
-    closed-by-requires
+    clear-ram-requires
     same-length
+    same-length-2
+    same-length-3
+    same-length-4
     returns
     enum-told-2
     rows-written-requires
-    opened-state-requires
+    clear-requires
+    clear-requires-2
+    same-length-5
+    same-length-6
     returns-2)

@@ -23,11 +23,11 @@ part-read-row-start c = search needs
 part-read-row-end : tie.Need-part-read-row-end
 part-read-row-end c = search needs
 
-add-t13 : tie.Need-add-t13
-add-t13 c = search needs
+add-t14 : tie.Need-add-t14
+add-t14 c = search needs
 
-cast-t14 : tie.Need-cast-t14
-cast-t14 c = search needs
+cast-t15 : tie.Need-cast-t15
+cast-t15 c = search needs
 
 read-row-requires : tie.Need-read-row-requires
 read-row-requires c κs = search needs
@@ -50,19 +50,22 @@ enum-told-3 c = search needs
 same-length : tie.Need-same-length
 same-length c = search needs
 
+same-length-2 : tie.Need-same-length-2
+same-length-2 c = search needs
+
 returns : tie.Need-returns
 unfolding judgeRow
 returns c =
-    let r = c .before .before .before .before .before .before .before in
-    let k = r .before .before .before .before .args .k in
+    let r = c .before .before .before .before .before .before .before .before .before .before in
+    let k = r .before .before .before .before .before .args .k in
     let e : 16 * k + 16 - 16 * k ≡ 16 = omega arith in
-    rw (rw (e, add-one k) at (sym (r .read-row .ensures) ∙ c .before .before .before .before .before .read .given .1)) (c .before .before .take-row .ensures)
+    rw (rw (e, add-one k) at (sym (r .read-row .ensures) ∙ c .before .before .before .before .before .before .before .before .read .given .1)) (c .before .before .before .before .take-row .ensures)
 
 returns-2 : tie.Need-returns-2
 unfolding judgeRow
 returns-2 c =
     let r = c .before .before in
-    let k = r .before .before .before .before .args .k in
+    let k = r .before .before .before .before .before .args .k in
     let e : 16 * k + 16 - 16 * k ≡ 16 = omega arith in
     rw (rw (e, add-one k) at (sym (r .read-row .ensures) ∙ c .enum-told .given .1))
 
@@ -70,7 +73,7 @@ returns-3 : tie.Need-returns-3
 unfolding judgeRow
 returns-3 c =
     let r = c .before .before in
-    let k = r .before .before .before .before .args .k in
+    let k = r .before .before .before .before .before .args .k in
     let e : 16 * k + 16 - 16 * k ≡ 16 = omega arith in
     rw (rw (e, add-one k) at (sym (r .read-row .ensures) ∙ c .enum-told2 .given .1))
 
@@ -78,7 +81,7 @@ returns-4 : tie.Need-returns-4
 unfolding judgeRow
 returns-4 c =
     let r = c .before .before in
-    let k = r .before .before .before .before .args .k in
+    let k = r .before .before .before .before .before .args .k in
     let e : 16 * k + 16 - 16 * k ≡ 16 = omega arith in
     rw (rw (e, add-one k) at (sym (r .read-row .ensures) ∙ c .enum-told3 .given .1))
 
@@ -91,8 +94,8 @@ judge-row-spec =
     sub-read-row
     part-read-row-start
     part-read-row-end
-    add-t13
-    cast-t14
+    add-t14
+    cast-t15
     read-row-requires
     enum-known-read
     take-row-requires
@@ -100,6 +103,7 @@ judge-row-spec =
     enum-told-2
     enum-told-3
     same-length
+    same-length-2
     returns
     returns-2
     returns-3

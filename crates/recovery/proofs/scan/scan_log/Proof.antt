@@ -1,55 +1,81 @@
 -- `recovery::scan::scan_log` meets its contract. Assumes nothing.
 use mathlib.Core.Path.{_≡_, _∙_}
+use native.Mathlib.Omega.{arith}
 use borrow.Author.Needs.{needs}
-use Rattle.tables_model.specs.Visits.{noTables}
+use Rattle.tables.proofs.Flat.{entries-zero}
+use Rattle.tables.proofs.Places.{actives-zero}
 use Rattle.recovery_model.specs.Openings.{noIndex}
 use Rattle.recovery_model.specs.Checking.{found}
 use Rattle.recovery_model.specs.Scan.{scanFrom}
-use Rattle.recovery.proofs.ScanTurns.{none-range, all-rows, bad-row}
+use Rattle.recovery.proofs.ScanTurns.{all-rows, bad-row}
 use Rattle.recovery.proofs.scan.scan_log.Statement.{statement}
 use Rattle.recovery.proofs.scan.scan_log.Tie as tie
 
 clear-requires : tie.Need-clear-requires
 clear-requires c κs = search needs
 
-no-tables-requires : tie.Need-no-tables-requires
-no-tables-requires c κs = search needs
+clear-requires-2 : tie.Need-clear-requires-2
+clear-requires-2 c κs = search needs
+
+no-counts-requires : tie.Need-no-counts-requires
+no-counts-requires c κs = search needs
 
 scan-rows-requires : tie.Need-scan-rows-requires
 scan-rows-requires c κs =
-    let s = c .before .before .before .before .before .before .before .before in
-    (s .pre .0, record { range = rw (c .before .no-tables .ensures) none-range; long = c .before .before .before .before .clear .kept .0 ∙ s .pre .1 })
+    let cleared = c .before .before .before .before .before in
+    let first = cleared .before .before .before .before in
+    let p = first .before .before .before .before .before .pre in (
+      p .0,
+      record {
+        range = rw (c .before .before .no-counts .ensures) (record { count = omega arith; used = omega arith });
+        visits-long = first .clear .kept .0 ∙ p .1 .0;
+        long = cleared .clear2 .kept .0 ∙ p .1 .1;
+      },
+    )
+
+-- the rows, from empty tables on
+started : (c : tie.After-scan-rows) → found (c .scan-rows .result) (c .scan-rows .last .1 .1 .0) (c .scan-rows .last .1 .1 .1 .0)
+    ≡ scanFrom 4096 0 (c .before .before .before .before .before .before .before .before .before .before .before .before .before .before .before .args .log .now) noIndex
+started c =
+    let cleared = c .before .before .before .before .before .before in
+    let first = cleared .before .before .before .before in
+    let long = first .before .before .before .before .before .pre .1 in
+    c .scan-rows .ensures ∙
+    rw (c .before .before .before .no-counts .ensures, first .clear .ensures, cleared .clear2 .ensures, actives-zero _ (long .0), entries-zero _ (long .1))
 
 first-set-requires : tie.Need-first-set-requires
 first-set-requires c κs = search needs
 
--- the rows, from empty tables on
-started : (c : tie.After-scan-rows) → found (c .scan-rows .result) (c .scan-rows .last .1 .1 .0)
-    ≡ scanFrom 4096 0 (c .before .before .before .before .before .before .before .before .before .args .log .now) noIndex
-unfolding noTables
-started c = c .scan-rows .ensures ∙ rw (c .before .before .no-tables .ensures, c .before .before .before .before .before .clear .ensures .1)
-
 same-length : tie.Need-same-length
 same-length c = search needs
-
-returns : tie.Need-returns
-returns c = all-rows _ _ _ (started (c .before .before .before .before .before .before)) (c .before .before .if1 .taken) _ (c .before .first-set .ensures)
 
 same-length-2 : tie.Need-same-length-2
 same-length-2 c = search needs
 
+returns : tie.Need-returns
+returns c = all-rows _ _ _ (started (c .before .before .before .before .before .before .before .before)) (c .before .before .if1 .taken) _ (c .before .first-set .ensures)
+
+same-length-3 : tie.Need-same-length-3
+same-length-3 c = search needs
+
+same-length-4 : tie.Need-same-length-4
+same-length-4 c = search needs
+
 returns-2 : tie.Need-returns-2
-returns-2 c = bad-row _ _ _ (started (c .before .before .before .before)) (c .if1 .left)
+returns-2 c = bad-row _ _ _ (started (c .before .before .before .before .before .before)) (c .if1 .left)
 
 pub scan-log-spec : {M : Type 1} → statement M
 scan-log-spec =
     tie.close
     (tie.spec
     clear-requires
-    no-tables-requires
+    clear-requires-2
+    no-counts-requires
     scan-rows-requires
     first-set-requires
     same-length
-    returns
     same-length-2
+    returns
+    same-length-3
+    same-length-4
     returns-2)

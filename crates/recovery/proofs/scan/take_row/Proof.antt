@@ -19,16 +19,17 @@ enum-told c = search needs
 before-undone-requires : tie.Need-before-undone-requires
 before-undone-requires c κs = search needs
 
-add-t17 : tie.Need-add-t17
-add-t17 c = search needs
+add-t22 : tie.Need-add-t22
+add-t22 c = search needs
 
-cast-t18 : tie.Need-cast-t18
-cast-t18 c = search needs
+cast-t23 : tie.Need-cast-t23
+cast-t23 c = search needs
 
 step-requires : tie.Need-step-requires
 step-requires c κs =
-    let s = c .before .before .before .before .before .before .before .before .before .before in
-    record { ready = s .pre .1; takes = allowed-takes _ _ _ _ (sym (c .before .before .before .before .before .judge .ensures) ∙ c .before .before .before .enum-told .given .1) }
+    let allowed = c .before .before .before .before in
+    let j = allowed .before .before in
+    record { ready = j .before .before .before .before .before .before .before .pre .1; takes = allowed-takes _ _ _ _ (sym (j .judge .ensures) ∙ allowed .enum-told .given .1) }
 
 enum-told-2 : tie.Need-enum-told-2
 enum-told-2 c = search needs
@@ -39,29 +40,39 @@ enum-told-3 c = search needs
 same-length : tie.Need-same-length
 same-length c = search needs
 
-returns : tie.Need-returns
-returns c =
-    let a = c .before .before .before .before .before .before in
-    let j = a .before .before in
-    let n = j .before .before in
-    let v = rw (n .named-by .ensures, meant-coded) at (sym (j .judge .ensures) ∙ a .enum-told .given .1) in
-    rw (v, ← add-one _, ← (c .before .before .before .before .before-undone .ensures), ← (c .before .before .step .ensures))
-
 same-length-2 : tie.Need-same-length-2
 same-length-2 c = search needs
 
-returns-2 : tie.Need-returns-2
-returns-2 c =
-    let j = c .before .before in
-    rw (rw (j .before .before .named-by .ensures, meant-coded) at (sym (j .judge .ensures) ∙ c .enum-told2 .given .1))
+returns : tie.Need-returns
+returns c =
+    let stepped = c .before .before .before .before in
+    let looked = stepped .before .before .before in
+    let a = looked .before .before in
+    let j = a .before .before in
+    let v = rw (j .before .before .before .named-by .ensures, meant-coded) at (sym (j .judge .ensures) ∙ a .enum-told .given .1) in
+    rw (v, ← add-one _, ← (looked .before-undone .ensures _), ← (stepped .step .ensures))
 
 same-length-3 : tie.Need-same-length-3
 same-length-3 c = search needs
 
+same-length-4 : tie.Need-same-length-4
+same-length-4 c = search needs
+
+returns-2 : tie.Need-returns-2
+returns-2 c =
+    let j = c .before .before in
+    rw (rw (j .before .before .before .named-by .ensures, meant-coded) at (sym (j .judge .ensures) ∙ c .enum-told2 .given .1))
+
+same-length-5 : tie.Need-same-length-5
+same-length-5 c = search needs
+
+same-length-6 : tie.Need-same-length-6
+same-length-6 c = search needs
+
 returns-3 : tie.Need-returns-3
 returns-3 c =
     let j = c .before .before in
-    rw (rw (j .before .before .named-by .ensures, meant-coded) at (sym (j .judge .ensures) ∙ c .enum-told3 .given .1))
+    rw (rw (j .before .before .before .named-by .ensures, meant-coded) at (sym (j .judge .ensures) ∙ c .enum-told3 .given .1))
 
 pub take-row-spec : {M : Type 1} → statement M
 take-row-spec =
@@ -71,14 +82,17 @@ take-row-spec =
     judge-requires
     enum-told
     before-undone-requires
-    add-t17
-    cast-t18
+    add-t22
+    cast-t23
     step-requires
     enum-told-2
     enum-told-3
     same-length
-    returns
     same-length-2
-    returns-2
+    returns
     same-length-3
+    same-length-4
+    returns-2
+    same-length-5
+    same-length-6
     returns-3)

@@ -6,7 +6,6 @@ use native.Mathlib.Omega.{arith}
 use lib.Seq.{drop-length}
 use lib.ListN.{length, replicate, drop, set, length-set}
 use borrow.Author.Fill.{fill-none, fill-more}
-use Rattle.tables.proofs.Flat.{entries-zero}
 use Rattle.tables.proofs.entries.clear.Statement.{statement}
 use Rattle.tables.proofs.entries.clear.Tie as tie
 
@@ -44,8 +43,7 @@ returns c =
     let l = c .before .loop in
     let s = c .before .before in
     let e : l .i ≡ length (s .args .t .now) = omega arith in
-    let z : l .t ≡ replicate (length (s .args .t .now)) 0 = l .inv .2 ∙ rw (e, drop-length) (append-nil _) in
-    (z, rw z (entries-zero _ (s .pre)))
+    l .inv .2 ∙ rw (e, drop-length) (append-nil _)
 
 pub clear-spec : {M : Type 1} → statement M
 clear-spec =

@@ -15,11 +15,11 @@ enum-told-2 c = search needs
 
 returns : tie.Need-returns
 unfolding growsBy
-returns c = rw (← c .before .before .find-growing .ensures, c .enum-told .given .1)
+returns c vs = rw (← c .before .before .find-growing .ensures, c .enum-told .given .1)
 
 returns-2 : tie.Need-returns-2
 unfolding growsBy
-returns-2 c = rw (← c .before .before .find-growing .ensures, c .enum-told2 .given .1)
+returns-2 c vs = rw (← c .before .before .find-growing .ensures, c .enum-told2 .given .1)
 
 pub grows-scope-spec : {M : Type 1} → statement M
 grows-scope-spec =

@@ -9,10 +9,10 @@ grows-scope-requires : tie.Need-grows-scope-requires
 grows-scope-requires c κs = search needs
 
 returns : tie.Need-returns
-returns c = rw (lt-ltb _ _ (c .if1 .taken), or-true _)
+returns c vs = rw (lt-ltb _ _ (c .if1 .taken), or-true _)
 
 returns-2 : tie.Need-returns-2
-returns-2 c = rw (le-ltb _ _ (c .before .if1 .left), or-false _, c .grows-scope .ensures)
+returns-2 c vs = rw (le-ltb _ _ (c .before .if1 .left), or-false _, c .grows-scope .ensures vs)
 
 pub has-entry-spec : {M : Type 1} → statement M
 has-entry-spec = tie.close (tie.spec grows-scope-requires returns returns-2)

@@ -15,7 +15,7 @@ free-rows-requires c κs = search needs
 
 returns : tie.Need-returns
 unfolding roomBy
-returns c = rw (← c .before .reserve .ensures .0, c .free-rows .ensures)
+returns c vs = rw (← c .before .reserve .ensures .0 vs, c .free-rows .ensures)
 
 pub has-room-spec : {M : Type 1} → statement M
 has-room-spec = tie.close (tie.spec reserve-requires add-needed free-rows-requires returns)

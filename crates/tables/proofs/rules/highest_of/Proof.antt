@@ -14,7 +14,7 @@ last-at-requires c κs =
 
 returns : tie.Need-returns
 unfolding highestOf
-returns c = rw (c .last-at .ensures, c .before .highest .ensures)
+returns c vs = rw (c .last-at .ensures, c .before .highest .ensures)
 
 pub highest-of-spec : {M : Type 1} → statement M
 highest-of-spec = tie.close (tie.spec highest-requires last-at-requires returns)

@@ -58,7 +58,8 @@ returns-4 : tie.Need-returns-4
 unfolding lawfulBy
 returns-4 c =
     let r = c .before .before .row4 in
-    rw (r .given .1, c .may-undo .ensures, toZ-ofZ {w = w16} {z = r .given .0 .1 .1 .1 .0} (search needs))
+    let s = c .before .before .before .before .before .before in
+    rw (r .given .1, c .may-undo .ensures (s .args .visits .now), toZ-ofZ {w = w16} {z = r .given .0 .1 .1 .1 .0} (search needs))
 
 returns-5 : tie.Need-returns-5
 unfolding lawfulBy

@@ -33,27 +33,27 @@ enum-told-5 c = search needs
 
 returns : tie.Need-returns
 unfolding withinLimitsBy
-returns c = rw (c .before .enum-told .given .1, c .room-to-begin .ensures)
+returns c vs = rw (c .before .enum-told .given .1, c .room-to-begin .ensures vs)
 
 returns-2 : tie.Need-returns-2
 unfolding withinLimitsBy
-returns-2 c = rw (c .before .before .row .given .1, c .room-to-change .ensures)
+returns-2 c vs = rw (c .before .before .row .given .1, c .room-to-change .ensures vs)
 
 returns-3 : tie.Need-returns-3
 unfolding withinLimitsBy
-returns-3 c = rw (c .before .enum-told2 .given .1, c .has-room .ensures)
+returns-3 c vs = rw (c .before .enum-told2 .given .1, c .has-room .ensures vs)
 
 returns-4 : tie.Need-returns-4
 unfolding withinLimitsBy
-returns-4 c = rw (c .enum-told3 .given .1)
+returns-4 c vs = rw (c .enum-told3 .given .1)
 
 returns-5 : tie.Need-returns-5
 unfolding withinLimitsBy
-returns-5 c = rw (c .enum-told4 .given .1)
+returns-5 c vs = rw (c .enum-told4 .given .1)
 
 returns-6 : tie.Need-returns-6
 unfolding withinLimitsBy
-returns-6 c = rw (c .enum-told5 .given .1)
+returns-6 c vs = rw (c .enum-told5 .given .1)
 
 pub is-within-limits-spec : {M : Type 1} → statement M
 is-within-limits-spec =

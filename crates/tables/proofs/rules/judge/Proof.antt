@@ -18,20 +18,22 @@ is-within-limits-requires c κs = search needs
 returns-2 : tie.Need-returns-2
 unfolding judgeBy
 returns-2 c =
+    let s = c .before .before .before .before .before .before in
     rw (
       ← c .before .before .before .is-lawful .ensures,
       not-false (c .before .before .before .is-lawful .result) (c .before .before .if1 .left),
-      ← c .before .is-within-limits .ensures,
+      ← c .before .is-within-limits .ensures (s .args .visits .now),
       not-true (c .before .is-within-limits .result) (c .if2 .taken),
     )
 
 returns-3 : tie.Need-returns-3
 unfolding judgeBy
 returns-3 c =
+    let s = c .before .before .before .before .before .before in
     rw (
       ← c .before .before .before .is-lawful .ensures,
       not-false (c .before .before .before .is-lawful .result) (c .before .before .if1 .left),
-      ← c .before .is-within-limits .ensures,
+      ← c .before .is-within-limits .ensures (s .args .visits .now),
       not-false (c .before .is-within-limits .result) (c .if2 .left),
     )
 

@@ -15,10 +15,11 @@ highest-of-requires c κs = search needs
 
 returns-2 : tie.Need-returns-2
 returns-2 c =
+    let s = c .before .before .before .before .before .before in
     rw (
       ← c .before .before .before .is-listed .ensures,
       not-false (c .before .before .before .is-listed .result) (c .before .before .if1 .left),
-      c .before .highest-of .ensures,
+      c .before .highest-of .ensures (s .args .visits .now),
     )
 
 pub may-abort-spec : {M : Type 1} → statement M

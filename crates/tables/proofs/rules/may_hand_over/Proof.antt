@@ -4,28 +4,28 @@ use mathlib.Core.Bool.{true, false}
 use lib.Dec.{eqb}
 use borrow.Author.Tests.{eq-eqb, ne-eqb, not-true, not-false}
 use borrow.Author.Needs.{needs}
-use Rattle.tables_model.specs.Visits.{isListed, isBearing}
+use Rattle.tables_model.specs.Visits.{tablesIn, isListed, isBearing}
 use Rattle.tables.proofs.rules.may_hand_over.Statement.{statement}
 use Rattle.tables.proofs.rules.may_hand_over.Tie as tie
 
 -- what the tests that were passed have shown
-apart : (c : tie.Else1) → let s = c .before .before .before .before in eqb (s .args .g .0) (s .args .r .0) ≡ false
+apart : (c : tie.Else1) → let s = c .before .before .before .before .before in eqb (s .args .g .0) (s .args .r .0) ≡ false
 apart c = ne-eqb _ _ (c .if1 .left)
 
-giver-listed : (c : tie.Else2) → let s = c .before .before .before .before .before .before in isListed (s .args .t) (s .args .g .0) ≡ true
+giver-listed : (c : tie.Else2) → let s = c .before .before .before .before .before .before .before in isListed (tablesIn (s .args .t) (s .args .visits .now)) (s .args .g .0) ≡ true
 giver-listed c = sym (c .before .is-listed .ensures) ∙ not-false _ (c .if2 .left)
 
 receiver-listed : (c : tie.Else3) →
-    let s = c .before .before .before .before .before .before .before .before in isListed (s .args .t) (s .args .r .0) ≡ true
+    let s = c .before .before .before .before .before .before .before .before .before in isListed (tablesIn (s .args .t) (s .args .visits .now)) (s .args .r .0) ≡ true
 receiver-listed c = sym (c .before .is-listed2 .ensures) ∙ not-false _ (c .if3 .left)
 
 giver-free : (c : tie.Else4) →
-    let s = c .before .before .before .before .before .before .before .before .before .before in isBearing (s .args .t) (s .args .g .0) ≡ false
+    let s = c .before .before .before .before .before .before .before .before .before .before .before in isBearing (tablesIn (s .args .t) (s .args .visits .now)) (s .args .g .0) ≡ false
 giver-free c = sym (c .before .is-bearing .ensures) ∙ c .if4 .left
 
 receiver-free : (c : tie.Else5) →
-    let s = c .before .before .before .before .before .before .before .before .before .before .before .before in
-    isBearing (s .args .t) (s .args .r .0) ≡ false
+    let s = c .before .before .before .before .before .before .before .before .before .before .before .before .before in
+    isBearing (tablesIn (s .args .t) (s .args .visits .now)) (s .args .r .0) ≡ false
 receiver-free c = sym (c .before .is-bearing2 .ensures) ∙ c .if5 .left
 
 returns : tie.Need-returns

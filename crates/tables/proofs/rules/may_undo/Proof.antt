@@ -6,16 +6,16 @@ use Rattle.tables.proofs.rules.may_undo.Statement.{statement}
 use Rattle.tables.proofs.rules.may_undo.Tie as tie
 
 returns : tie.Need-returns
-returns c = rw (lt-leb _ _ (c .if1 .taken))
+returns c vs = rw (lt-leb _ _ (c .if1 .taken))
 
 highest-of-requires : tie.Need-highest-of-requires
 highest-of-requires c κs = search needs
 
 returns-2 : tie.Need-returns-2
-returns-2 c =
+returns-2 c vs =
     rw (
       le-leb _ _ (c .before .before .before .before .if1 .left),
-      ← c .before .before .before .highest-of .ensures,
+      ← c .before .before .before .highest-of .ensures vs,
       ne-eqb _ _ (c .if2 .taken),
     )
 
@@ -23,10 +23,10 @@ is-change-requires : tie.Need-is-change-requires
 is-change-requires c κs = search needs
 
 returns-3 : tie.Need-returns-3
-returns-3 c =
+returns-3 c vs =
     rw (
       le-leb _ _ (c .before .before .before .before .before .if1 .left),
-      ← c .before .before .before .before .highest-of .ensures,
+      ← c .before .before .before .before .highest-of .ensures vs,
       eq-eqb _ _ (c .before .if2 .left),
       c .is-change .ensures,
       toZ-ofZ (c .before .before .before .before .before .before .before .before .fits .a),

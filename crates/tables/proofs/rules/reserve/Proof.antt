@@ -14,7 +14,7 @@ add-result c = search needs
 returns : tie.Need-returns
 unfolding reserveBy
 returns c =
-    let e = c .before .open-count .ensures in let s = c .before .before .before in (rw (e .0), omega (arith, e .1, s .pre .range .count))
+    let e = c .before .open-count .ensures in let s = c .before .before .before in ((λ vs. rw (e .0)), omega (arith, e .1, s .pre .range .count))
 
 pub reserve-spec : {M : Type 1} → statement M
 reserve-spec = tie.close (tie.spec open-count-requires add-result returns)

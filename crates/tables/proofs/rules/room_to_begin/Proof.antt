@@ -8,10 +8,10 @@ has-room-requires : tie.Need-has-room-requires
 has-room-requires c κs = search needs
 
 returns : tie.Need-returns
-returns c = rw (lt-ltb _ _ (c .before .if1 .taken), c .has-room .ensures)
+returns c vs = rw (lt-ltb _ _ (c .before .if1 .taken), c .has-room .ensures vs)
 
 returns-2 : tie.Need-returns-2
-returns-2 c = rw (le-ltb _ _ (c .if1 .left))
+returns-2 c vs = rw (le-ltb _ _ (c .if1 .left))
 
 pub room-to-begin-spec : {M : Type 1} → statement M
 room-to-begin-spec = tie.close (tie.spec has-room-requires returns returns-2)

@@ -10,10 +10,10 @@ has-room-requires : tie.Need-has-room-requires
 has-room-requires c κs = search needs
 
 returns : tie.Need-returns
-returns c = rw (← c .before .before .has-entry .ensures, c .before .if1 .taken, c .has-room .ensures)
+returns c vs = rw (← c .before .before .has-entry .ensures vs, c .before .if1 .taken, c .has-room .ensures vs)
 
 returns-2 : tie.Need-returns-2
-returns-2 c = rw (← c .before .has-entry .ensures, c .if1 .left)
+returns-2 c vs = rw (← c .before .has-entry .ensures vs, c .if1 .left)
 
 pub room-to-change-spec : {M : Type 1} → statement M
 room-to-change-spec =

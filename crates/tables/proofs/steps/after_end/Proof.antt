@@ -12,8 +12,12 @@ with-ended-requires c κs = search needs
 same-length : tie.Need-same-length
 same-length c = search needs
 
+same-length-2 : tie.Need-same-length-2
+same-length-2 c = search needs
+
 returns : tie.Need-returns
-returns c = rw (c .with-ended .ensures, ← c .before .before .before .end-visit .ensures)
+returns c = rw (c .before .before .with-ended .ensures, ← c .before .before .before .before .before .before .end-visit .ensures)
 
 pub after-end-spec : {M : Type 1} → statement M
-after-end-spec = tie.close (tie.spec end-visit-requires with-ended-requires same-length returns)
+after-end-spec =
+    tie.close (tie.spec end-visit-requires with-ended-requires same-length same-length-2 returns)

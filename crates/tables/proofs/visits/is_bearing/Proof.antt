@@ -1,33 +1,28 @@
--- `tables::visits::is_bearing` meets its contract. The loop's invariant: a bearer of the visit is among all places in use if it is among those left. Assumes nothing.
+-- `tables::visits::is_bearing` meets its contract. The loop's invariant: a bearer is among all places in use if it is among those left. Assumes nothing.
 use Prim.Native.Nat.{_+_, _-_, _≤_}
 use mathlib.Core.Bool.{_||_}
 use mathlib.Core.Path.{_≡_, refl, sym, _∙_}
 use native.Mathlib.Omega.{arith}
-use lib.ListN.{length-map, length, take}
+use lib.ListN.{length, take}
 use Rattle.book.specs.Lists.{any}
-use Rattle.tables_model.specs.Visits.{isBearing, isBearer, vacant}
+use Rattle.tables_model.specs.Visits.{actives, isBearing, isBearer, vacant}
 use Rattle.tables.proofs.Loops.{left, left-next, left-end}
+use Rattle.tables.proofs.Places.{actives-length}
 use Rattle.tables.proofs.visits.is_bearing.Statement.{statement}
 use Rattle.tables.proofs.visits.is_bearing.Tie as tie
 
 abbrev Inv-loop : tie.InvT-loop
-Inv-loop v active count i₀ i = (i ≤ count) × (any (isBearer (v .0)) (take count active) ≡ any (isBearer (v .0)) (left count i active))
+Inv-loop visits v count i₀ i =
+    let p = isBearer (v .0) in (i ≤ count) × (any p (take count (actives visits)) ≡ any p (left count i (actives visits)))
 
 abbrev μ-loop : tie.MeasureT-loop
-μ-loop v active count i₀ i = count - i
-
--- the array has 16 places
-long : (c : tie.Start Inv-loop μ-loop) → length (c .args .t .active) ≡ 16
-long c = sym (length-map (c .args .t .active) _) ∙ c .good .0 .1 .1 .1 .0 .1 .0 .1
+μ-loop visits v count i₀ i = count - i
 
 loop-holds : tie.Need-loop-holds Inv-loop μ-loop
 loop-holds c = (omega arith, refl)
 
-mul-bears : tie.Need-mul-bears Inv-loop μ-loop
-mul-bears c = omega arith
-
-array-copy-out-bears : tie.Need-array-copy-out-bears Inv-loop μ-loop
-array-copy-out-bears c = omega arith
+active-at-requires : tie.Need-active-at-requires Inv-loop μ-loop
+active-at-requires c κs = record { long = c .before .before .before .pre .long; below = omega (arith, c .before .before .before .pre .within) }
 
 bears-requires : tie.Need-bears-requires Inv-loop μ-loop
 bears-requires c κs = tt
@@ -37,13 +32,15 @@ turn : (c : tie.After-bears Inv-loop μ-loop) →
     let s = c .before .before .before .before .before in
     let l = c .before .before .before .loop in
     let p = isBearer (s .args .v .0) in
-    any p (left (s .args .t .count) (l .i) (s .args .t .active)) ≡ c .bears .result || any p (left (s .args .t .count) (l .i + 1) (s .args .t .active))
+    let places = actives (s .args .visits .now) in
+    any p (left (s .args .t .count) (l .i) places) ≡ c .bears .result || any p (left (s .args .t .count) (l .i + 1) places)
 turn c =
     let s = c .before .before .before .before .before in
     let l = c .before .before .before .loop in
     let n = s .args .t .count in
-    let w : n ≤ length (s .args .t .active) = omega (arith, long s, s .pre .count) in
-    rw (left-next n (l .i) (s .args .t .active) vacant (c .before .before .loop-test .taken) w, ← c .bears .ensures)
+    let places = actives (s .args .visits .now) in
+    let w : n ≤ length places = rw actives-length (s .pre .within) in
+    rw (left-next n (l .i) places vacant (c .before .before .loop-test .taken) w, ← c .before .active-at .ensures, ← c .bears .ensures)
 
 returns : tie.Need-returns Inv-loop μ-loop
 unfolding isBearing
@@ -70,8 +67,7 @@ is-bearing-spec =
     Inv-loop
     μ-loop
     loop-holds
-    mul-bears
-    array-copy-out-bears
+    active-at-requires
     bears-requires
     returns
     add-i

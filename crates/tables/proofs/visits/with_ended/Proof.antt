@@ -1,19 +1,23 @@
 -- `tables::visits::with_ended` meets its contract. Assumes nothing.
+use Rattle.tables_model.specs.Visits.{withEnded}
 use borrow.Author.Needs.{needs}
-use Rattle.tables_model.specs.Visits.{vacated, withEnded}
 use Rattle.tables.proofs.visits.with_ended.Statement.{statement}
 use Rattle.tables.proofs.visits.with_ended.Tie as tie
 
-without-requires : tie.Need-without-requires
-without-requires c κs = search needs
+close-ranks-requires : tie.Need-close-ranks-requires
+close-ranks-requires c κs = search needs
 
-vacate-requires : tie.Need-vacate-requires
-vacate-requires c κs = c .without .ensures .room
+vacate-from-requires : tie.Need-vacate-from-requires
+vacate-from-requires c κs = search needs
+
+same-length : tie.Need-same-length
+same-length c = search needs
 
 returns : tie.Need-returns
-unfolding vacated withEnded
+unfolding withEnded
 returns c =
-    let e = c .before .without .ensures in rw (c .vacate .ensures, e .kept, e .begun, e .count)
+    let e = c .before .before .before .before .before .before .close-ranks .ensures in rw (c .before .before .vacate-from .ensures, e .kept, e .count)
 
 pub with-ended-spec : {M : Type 1} → statement M
-with-ended-spec = tie.close (tie.spec without-requires vacate-requires returns)
+with-ended-spec =
+    tie.close (tie.spec close-ranks-requires vacate-from-requires same-length returns)

@@ -1,0 +1,50 @@
+-- `calls::accept::accept_force` meets its contract. Assumes nothing.
+use mathlib.Core.Path.{refl}
+use Rattle.book.specs.Calls.{Call}
+use Rattle.calls_model.specs.Acts.{core}
+use Rattle.calls.proofs.CallSteps.{forces}
+use Rattle.calls.proofs.Leaving.{accepted-by}
+use borrow.Author.Needs.{needs}
+use Rattle.calls.proofs.accept.accept_force.Statement.{statement}
+use Rattle.calls.proofs.accept.accept_force.Tie as tie
+
+force-requires : tie.Need-force-requires
+force-requires c κs = search needs
+
+settle-requires : tie.Need-settle-requires
+settle-requires c κs = search needs
+
+same-length : tie.Need-same-length
+same-length c = search needs
+
+same-length-2 : tie.Need-same-length-2
+same-length-2 c = search needs
+
+same-length-3 : tie.Need-same-length-3
+same-length-3 c = search needs
+
+same-length-4 : tie.Need-same-length-4
+same-length-4 c = search needs
+
+same-length-5 : tie.Need-same-length-5
+same-length-5 c = search needs
+
+returns : tie.Need-returns
+returns c charts =
+    let s = c .before .before .before .before .before .before .before .before .before .before .before .before .before .before .before .before .before .before .before .before .before .before .before .before .before in
+    let a = s .args in
+    let x = core (a .c) (a .t) (a .visits .now) (a .log .now) charts (a .copy .now) (a .tail .now) (a .scopes .now) in
+    accepted-by _ _ _ _ charts _ _ _ Call.force (s .pre) _ _ _ _ _ _ _ _ (forces x _ (c .before .before .before .before .before .before .before .before .before .before .before .before .before .before .before .before .before .force .ensures)) _ refl refl _ _ _ _ _ (c .before .before .before .before .before .before .before .before .settle .ensures)
+
+pub accept-force-spec : {M : Type 1} → statement M
+accept-force-spec =
+    tie.close
+    (tie.spec
+    force-requires
+    settle-requires
+    same-length
+    same-length-2
+    same-length-3
+    same-length-4
+    same-length-5
+    returns)

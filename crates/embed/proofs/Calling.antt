@@ -1,0 +1,168 @@
+-- A call for C keeps its contract, by what its checks answered and what it came to on the arrays. Assumes nothing.
+use Prim.Native.Nat.{ℕ}
+use native.Mathlib.Omega.{arith}
+use mathlib.Core.Path.{_≡_, refl, sym, ap, _∙_, subst}
+use mathlib.Core.Logic.{_≢_, _⊎_, inl, inr}
+use mathlib.Core.Bool.{Bool, true, false, cond, _&&_}
+use mathlib.Core.List.{List, [], _∷_, map}
+use lib.IntN.{ℤ, pos}
+use lib.ListN.{length}
+use lib.Dec.{eqb}
+use borrow.Author.Tests.{eqb-true}
+use Rattle.book.specs.Limits.{logLength, chartsLength}
+use Rattle.book.specs.Calls.{Call, Typed}
+use Rattle.book.specs.Scopes.{Scope}
+use Rattle.book.specs.Book.{Answer, answer}
+use Rattle.book.proofs.Lists.{and-l, and-r, clash}
+use Rattle.tables_model.specs.Entries.{entries, scopeIn, scopeOf}
+use Rattle.tables_model.specs.Visits.{tablesIn}
+use Rattle.state.specs.Answers.{numberAndValue, refusedBy}
+use Rattle.state.specs.World.{rightLengths, isOpenPhase, cleared}
+use Rattle.state.specs.Contracts.{Answered, answered, CallPost}
+use Rattle.state.proofs.Cases.{refusal-case}
+use Rattle.journal.specs.declared.Outcome.{Outcome}
+use Rattle.journal.specs.Outcomes.{outcome}
+use Rattle.undo.specs.Writing.{isRunning}
+use Rattle.calls_model.specs.Acts.{Core, core, acted, valueBy, Accepts}
+use Rattle.calls_model.specs.Perform.{coreOf, worldIn as worldLeft, settled, numberBy, numberOf, performed, accepted, Accepted}
+use Rattle.calls_model.proofs.Post.{performed-post}
+use Rattle.calls.proofs.Performing.{passed, when-refused}
+use Rattle.embed_model.specs.Arrays.{Arrays, arrays, controlOf, countsIn, headOf, worldIn, Lengths}
+use Rattle.embed_model.specs.Packed.{answerIn}
+use Rattle.embed_model.specs.Called.{answeredIn, Calls}
+use Rattle.embed_model.proofs.Arrays.{only-stored, control-back, outcome-is, zeroed}
+
+-- ── Lengths ───────────────────────────────────────────────────────────────────────────────────────────────────────────
+
+-- the log or the charts have another length
+pub wrong-stored : (x : Arrays) → Lengths x → eqb (length (x .log)) logLength && eqb (length (x .charts)) chartsLength ≡ false → rightLengths (worldIn x) ≡ false
+wrong-stored x long e = only-stored x long ∙ e
+
+-- they have theirs
+pub right-stored : (x : Arrays) → Lengths x → eqb (length (x .log)) logLength && eqb (length (x .charts)) chartsLength ≡ true → rightLengths (worldIn x) ≡ true
+right-stored x long e = only-stored x long ∙ e
+
+pub stored-lengths : (x : Arrays) → eqb (length (x .log)) logLength && eqb (length (x .charts)) chartsLength ≡ true
+    → (length (x .log) ≡ logLength) × (length (x .charts) ≡ chartsLength)
+stored-lengths x e =
+    let p = eqb (length (x .log)) logLength in (eqb-true _ _ (and-l p _ e), eqb-true _ _ (and-r p _ e))
+
+-- ── The checks ────────────────────────────────────────────────────────────────────────────────────────────────────────
+
+-- an entry goes over into the struct and back
+same-entries : (ss : List Scope) → map scopeIn (map scopeOf ss) ≡ ss
+same-entries [] = refl
+same-entries (s ∷ ss) = ap (λ (r : List Scope). s ∷ r) (same-entries ss)
+
+-- what the checks of a call answer
+abbrev pub numberIn : Arrays → Call → ℕ
+numberIn x k = numberBy (controlOf (x .head)) (tablesIn (countsIn (x .head)) (x .visits)) (entries (x .scopes)) k
+
+abbrev pub coreIn : Arrays → Core
+coreIn x = core (controlOf (x .head)) (countsIn (x .head)) (x .visits) (x .log) (x .charts) (x .copy) (x .tail) (x .scopes)
+
+module _ (k : Call) (x : Arrays) (right : rightLengths (worldIn x) ≡ true) where
+  numbered : numberOf (worldIn x) k ≡ numberIn x k
+  unfolding numberOf worldIn
+  numbered = rw (right, same-entries (entries (x .scopes)))
+
+  -- one of them refuses it
+  pub refused : Typed k → Lengths x → (a : Answer) (r : ℕ) → answerIn r ≡ a → a ≡ refusedBy (numberIn x k) → a .number ≢ 0 → Calls k x r x
+  unfolding performed
+  refused typed long a r says e other =
+      let n = sym numbered in
+      let is = when-refused (worldIn x) k a (numberOf (worldIn x) k) (e ∙ ap refusedBy n) (λ z. other (ap (λ (b : Answer). b .number) e ∙ n ∙ z)) in
+      record {
+        does = rw says (subst (CallPost k (worldIn x)) (sym is) (performed-post (worldIn x) k typed));
+        keeps = λ p q. refl;
+        shut = λ p. refl;
+        cut = λ p. inl refl;
+        sized = long;
+      }
+
+-- none does
+pub passes : (k : Call) (x : Arrays) (a : Answer) → a ≡ refusedBy (numberIn x k) → a .number ≡ 0 → numberIn x k ≡ 0
+passes k x a e z = sym (ap (λ (b : Answer). b .number) e) ∙ z
+
+-- ── An accepted call ──────────────────────────────────────────────────────────────────────────────────────────────────
+
+-- what the work of a call asks
+pub accepts : (k : Call) (x : Arrays) → Lengths x → length (x .log) ≡ logLength → numberIn x k ≡ 0
+    → Accepts (controlOf (x .head)) (countsIn (x .head)) (length (x .log)) (length (x .copy)) (length (x .tail)) (x .visits) (x .scopes) k
+accepts k x long log free =
+    let p = passed (controlOf (x .head)) (countsIn (x .head)) (x .visits) (entries (x .scopes)) k free in
+    record {
+      fits = record {
+        sizes = record { log-long = log; tail-long = long .tail; few = p .within .few; room = p .within .room };
+        copy-long = long .copy;
+      };
+      ready = record { range = p .within .range; visits-long = long .visits; long = long .scopes };
+      running = p .running;
+      free = p .free;
+    }
+
+-- it answers 0 or 5
+zero-or-five : (x : Core) (v : ℤ) → (settled x v .answer .number ≡ 0) ⊎ (settled x v .answer .number ≡ 5)
+unfolding settled
+zero-or-five x v = go (isRunning (x .ram .journal))
+  where
+    go : (t : Bool) → (cond t (answered 0 v (worldLeft x)) (answered 5 (pos 0) (cleared (x .ram .journal .log) (x .charts))) .answer .number ≡ 0)
+        ⊎ (cond t (answered 0 v (worldLeft x)) (answered 5 (pos 0) (cleared (x .ram .journal .log) (x .charts))) .answer .number ≡ 5)
+    go true = inl refl
+    go false = inr refl
+
+module _ (k : Call) (typed : Typed k) (x : Arrays) (right : rightLengths (worldIn x) ≡ true) (free : numberIn x k ≡ 0)
+    (r : Outcome) (visits scopes tail copy log charts : List ℕ) (A : Accepted (coreIn x) k r log charts copy tail visits scopes) where
+  is-performed : outcome r log charts copy tail visits scopes ≡ performed (worldIn x) k
+  unfolding performed worldIn coreOf
+  is-performed =
+      A .is ∙ rw (numbered k x right, free, same-entries (entries (x .scopes)))
+
+  module _ (n : ℕ) (says : answerIn n ≡ numberAndValue (r .answer)) (head : List ℕ) (written : head ≡ headOf (r .control) (r .counts)) (counted : countsIn head ≡ r .counts)
+      (long : Lengths (arrays head visits scopes tail copy log charts)) where
+    abbrev leaves : Arrays
+    leaves = arrays head visits scopes tail copy log charts
+
+    left : answeredIn n leaves ≡ outcome r log charts copy tail visits scopes
+    left = outcome-is r head visits scopes tail copy log charts n says (rw written (control-back (r .control) (r .counts))) counted
+
+    number-is : answerIn n .number ≡ accepted (coreIn x) k .answer .number
+    number-is = ap (λ (y : Answered). y .answer .number) (left ∙ A .is)
+
+    neither : answerIn n .number ≢ 0 → answerIn n .number ≢ 5 → leaves ≡ x
+    neither p q = go (zero-or-five (acted (coreIn x) k) (valueBy (coreIn x) (acted (coreIn x) k) k))
+      where
+        go : (accepted (coreIn x) k .answer .number ≡ 0) ⊎ (accepted (coreIn x) k .answer .number ≡ 5) → leaves ≡ x
+        go (inl z) = absurd (p (number-is ∙ z))
+        go (inr z) = absurd (q (number-is ∙ z))
+
+    shut-phase : isOpenPhase (worldIn x .state .phase) ≡ false → isOpenPhase (controlOf (x .head) .phase) ≡ false
+    unfolding worldIn
+    shut-phase e = e
+
+    five : _≡_ {A = ℕ} 5 0 → ⊥
+    five e = omega arith
+
+    pub accepted-call : Calls k x n leaves
+    accepted-call = record {
+      does = subst (CallPost k (worldIn x)) (sym (left ∙ is-performed)) (performed-post (worldIn x) k typed);
+      keeps = neither;
+      shut = λ p. absurd (clash _ (passed (controlOf (x .head)) (countsIn (x .head)) (x .visits) (entries (x .scopes)) k free .running) (shut-phase p));
+      cut = λ p. inr (zeroed r head visits scopes tail copy log charts (A .zero (refusal-case (r .answer) (λ z. five (sym p ∙ ap (λ (b : Answer). b .number) says ∙ z)))) written);
+      sized = long;
+    }
+
+-- a read leaves the arrays as they were
+pub read-call : (k : Call) → Typed k → (x : Arrays) → rightLengths (worldIn x) ≡ true → numberIn x k ≡ 0
+    → (r : Outcome) → Accepted (coreIn x) k r (x .log) (x .charts) (x .copy) (x .tail) (x .visits) (x .scopes) → (n : ℕ) → answerIn n ≡ numberAndValue (r .answer)
+    → (r .control ≡ controlOf (x .head)) × (r .counts ≡ countsIn (x .head)) → Lengths x → Calls k x n x
+read-call k typed x right free r A n says same long =
+    let left : answeredIn n x ≡ outcome r (x .log) (x .charts) (x .copy) (x .tail) (x .visits) (x .scopes) =
+    outcome-is r (x .head) (x .visits) (x .scopes) (x .tail) (x .copy) (x .log) (x .charts) n says (sym (same .0)) (sym (same .1)) in
+    record {
+      does = subst (CallPost k (worldIn x)) (sym (left ∙ is-performed k typed x right free r (x .visits) (x .scopes) (x .tail) (x .copy) (x .log) (x .charts) A)) (performed-post (worldIn x) k typed);
+      keeps = λ p q. refl;
+      shut = λ p. refl;
+      cut = λ p. inl refl;
+      sized = long;
+    }

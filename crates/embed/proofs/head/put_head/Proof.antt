@@ -1,0 +1,98 @@
+-- `embed::head::put_head` meets its contract. Assumes nothing.
+use mathlib.Core.Path.{_≡_, ap, _∙_}
+use mathlib.Core.List.{[], _∷_}
+use native.Mathlib.Omega.{arith}
+use lib.ListN.{length-set}
+use Rattle.embed_model.specs.Arrays.{countsIn, headOf}
+use Rattle.embed_model.proofs.Arrays.{counts-back}
+use Rattle.embed.proofs.Eight.{eight-set}
+use borrow.Author.Needs.{needs}
+use Rattle.embed.proofs.head.put_head.Statement.{statement}
+use Rattle.embed.proofs.head.put_head.Tie as tie
+
+phase-number-requires : tie.Need-phase-number-requires
+phase-number-requires c κs = search needs
+
+slice-write-head : tie.Need-slice-write-head
+slice-write-head c = search needs
+
+kind-number-requires : tie.Need-kind-number-requires
+kind-number-requires c κs = search needs
+
+slice-write-head-2 : tie.Need-slice-write-head-2
+slice-write-head-2 c = search needs
+
+left-number-requires : tie.Need-left-number-requires
+left-number-requires c κs = search needs
+
+slice-write-head-3 : tie.Need-slice-write-head-3
+slice-write-head-3 c = search needs
+
+cast-head : tie.Need-cast-head
+cast-head c = search needs
+
+slice-write-head-4 : tie.Need-slice-write-head-4
+slice-write-head-4 c = search needs
+
+cast-head-2 : tie.Need-cast-head-2
+cast-head-2 c = search needs
+
+slice-write-head-5 : tie.Need-slice-write-head-5
+slice-write-head-5 c = simp length-set (omega (arith, c .before .before .before .before .before .before .pre .0))
+
+cast-head-3 : tie.Need-cast-head-3
+cast-head-3 c = search needs
+
+slice-write-head-6 : tie.Need-slice-write-head-6
+slice-write-head-6 c = simp length-set (omega (arith, c .before .before .before .before .before .before .before .pre .0))
+
+cast-head-4 : tie.Need-cast-head-4
+cast-head-4 c = search needs
+
+slice-write-head-7 : tie.Need-slice-write-head-7
+slice-write-head-7 c = simp length-set (omega (arith, c .before .before .before .before .before .before .before .before .pre .0))
+
+cast-head-5 : tie.Need-cast-head-5
+cast-head-5 c = search needs
+
+slice-write-head-8 : tie.Need-slice-write-head-8
+slice-write-head-8 c = simp length-set (omega (arith, c .before .before .before .before .before .before .before .before .before .pre .0))
+
+same-length : tie.Need-same-length
+same-length c = search needs
+
+returns : tie.Need-returns
+returns c =
+    let s = c .before .before .before .before .before .before .before .before .before in
+    let x = s .args in
+    let p = c .before .before .before .before .before .before .before .phase-number in
+    let k = c .before .before .before .before .before .before .kind-number in
+    let l = c .before .before .before .before .before .left-number in
+    let set = eight-set (x .head .now) (p .result) (k .result) (l .result) (x .c .stored) (x .c .waiting) (x .t .begun) (x .t .count) (x .t .used) (s .pre .0) in
+    let are : p .result ∷ k .result ∷ l .result ∷ x .c .stored ∷ x .c .waiting ∷ x .t .begun ∷ x .t .count ∷ x .t .used ∷ [] ≡ headOf (x .c) (x .t) =
+    rw (p .ensures, k .ensures, l .ensures) in
+    let e = set ∙ are in
+    (e, ap countsIn e ∙ counts-back (x .c) (x .t) (search needs))
+
+pub put-head-spec : {M : Type 1} → statement M
+put-head-spec =
+    tie.close
+    (tie.spec
+    phase-number-requires
+    slice-write-head
+    kind-number-requires
+    slice-write-head-2
+    left-number-requires
+    slice-write-head-3
+    cast-head
+    slice-write-head-4
+    cast-head-2
+    slice-write-head-5
+    cast-head-3
+    slice-write-head-6
+    cast-head-4
+    slice-write-head-7
+    cast-head-5
+    slice-write-head-8
+    same-length
+    returns)

@@ -1,0 +1,72 @@
+// Format and open on the arrays, lent as slices. Neither takes anything from the arrays of RAM.
+ghost use mathlib.Core.Path.{_≡_};
+ghost use Rattle.state.specs.World.{allowance};
+ghost use Rattle.embed_model.specs.Arrays.{arrays, Lengths};
+ghost use Rattle.embed_model.specs.Called.{Formats, Opens};
+ghost use Rattle.embed_model.specs.Packed.{fuseIn};
+use crate::head::finish;
+use crate::packed::packed;
+use journal::lengths::stored_fit;
+use state::answers::Answer;
+use state::answers::number_of;
+use state::ram::Fuse;
+use undo::clear::clear_ram;
+
+pub(crate) fn format(
+    head: &mut [u32],
+    visits: &mut [u16],
+    scopes: &mut [u16],
+    tail: &mut [u8],
+    copy: &mut [u8],
+    log: &mut [u8],
+    charts: &mut [u8],
+    cells: &[i32],
+) -> u64
+    requires { ⌜ Lengths (arrays (now head) (now visits) (now scopes) (now tail) (now copy) (now log) (now charts)) ⌝ }
+    ensures { λ r. ⌜ Formats (now (cells .entry))
+        (arrays (now (head .entry)) (now (visits .entry)) (now (scopes .entry)) (now (tail .entry)) (now (copy .entry)) (now (log .entry)) (now (charts .entry))) r
+        (arrays (now (head .exit)) (now (visits .exit)) (now (scopes .exit)) (now (tail .exit)) (now (copy .exit)) (now (log .exit)) (now (charts .exit))) ⌝ }
+{
+    if !stored_fit(log.len(), charts.len()) {
+        return packed(Answer::WrongLength);
+    }
+    let answer = recovery::format::format(cells, log, charts);
+    if number_of(answer) != 0 {
+        return packed(answer);
+    }
+    let r = clear_ram(copy, tail, visits, scopes, answer);
+    finish(head, r)
+}
+
+fn fuse_of(n: u32) -> Fuse
+    ensures { λ r. ⌜ allowance r ≡ fuseIn n ⌝ }
+{
+    if n == 4294967295 {
+        Fuse::Unlimited
+    } else {
+        Fuse::Left(n)
+    }
+}
+
+pub(crate) fn open(
+    head: &mut [u32],
+    visits: &mut [u16],
+    scopes: &mut [u16],
+    tail: &mut [u8],
+    copy: &mut [u8],
+    log: &mut [u8],
+    charts: &[u8],
+    fuse: u32,
+) -> u64
+    requires { ⌜ Lengths (arrays (now head) (now visits) (now scopes) (now tail) (now copy) (now log) (now charts)) ⌝ }
+    ensures { λ r. ⌜ Opens fuse
+        (arrays (now (head .entry)) (now (visits .entry)) (now (scopes .entry)) (now (tail .entry)) (now (copy .entry)) (now (log .entry)) (now (charts .entry))) r
+        (arrays (now (head .exit)) (now (visits .exit)) (now (scopes .exit)) (now (tail .exit)) (now (copy .exit)) (now (log .exit)) (now (charts .entry))) ⌝ }
+{
+    if !stored_fit(log.len(), charts.len()) {
+        return packed(Answer::WrongLength);
+    }
+    let f = fuse_of(fuse);
+    let r = recovery::open::open(f, log, charts, copy, tail, visits, scopes);
+    finish(head, r)
+}

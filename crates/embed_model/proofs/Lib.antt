@@ -1,0 +1,4 @@
+pub mod Arrays
+pub mod Refused
+pub mod Freedom
+pub mod Demand

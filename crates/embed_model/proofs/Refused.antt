@@ -1,0 +1,47 @@
+-- A log or charts of a wrong length: the contracts of all functions are met by refusal 1 with nothing changed.
+use Prim.Native.Nat.{ℕ}
+use native.Mathlib.Omega.{arith}
+use mathlib.Core.Bool.{true, false}
+use mathlib.Core.Path.{_≡_, refl, ap, sym, _∙_, subst}
+use mathlib.Core.Logic.{inl}
+use mathlib.Core.List.{List}
+use lib.IntN.{ℤ, pos}
+use Rattle.book.specs.Calls.{Call}
+use Rattle.book.specs.Book.{Answer, answer}
+use Rattle.state.specs.World.{rightLengths}
+use Rattle.state.specs.Contracts.{Answered, formats, CallPost}
+use Rattle.state.proofs.OpenedStores.{opens-refused}
+use Rattle.state.proofs.Satisfiable.{met-lengths}
+use Rattle.embed_model.specs.Arrays.{Arrays, worldIn, Lengths}
+use Rattle.embed_model.specs.Packed.{answerIn, fuseIn}
+use Rattle.embed_model.specs.Called.{answeredIn, Formats, Opens, Calls}
+
+module _ (x : Arrays) (long : Lengths x) (r : ℕ) (one : answerIn r ≡ answer 1 (pos 0)) (wrong : rightLengths (worldIn x) ≡ false) where
+  is-one : answerIn r .number ≡ 1
+  is-one = ap (λ (a : Answer). a .number) one
+
+  pub format-refused : (values : List ℤ) → Formats values x r x
+  unfolding formats
+  format-refused values = record {
+    does = record { is = rw (wrong, one) };
+    keeps = λ n. refl;
+    clears = λ z. let n = is-one in absurd (omega arith);
+    sized = long;
+  }
+
+  pub open-refused : (fuse : ℕ) → Opens fuse x r x
+  open-refused fuse = record {
+    does = record { is = rw one (sym (opens-refused (fuseIn fuse) (worldIn x) wrong)) };
+    keeps = λ n. refl;
+    clears = λ z n. absurd (n is-one);
+    sized = long;
+  }
+
+  pub call-refused : (k : Call) → Calls k x r x
+  call-refused k = record {
+    does = subst (λ (a : Answer). CallPost k (worldIn x) (record { answer = a; world = worldIn x })) (sym one) (met-lengths k (worldIn x) wrong);
+    keeps = λ n m. refl;
+    shut = λ e. refl;
+    cut = λ e. inl refl;
+    sized = long;
+  }

@@ -1,0 +1,6 @@
+pub mod Arrays
+pub mod Packed
+pub mod Called
+pub mod Host
+pub mod Freedom
+pub mod Demand
