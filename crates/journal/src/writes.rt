@@ -1,4 +1,5 @@
-// Stored writes: one row of the log, one page of the charts. A write beyond the fuse changes no byte.
+// Stored writes: one row of the log, one page of the charts. A write beyond the fuse changes no byte. What is written goes through a local array: to the
+// compiler source and target of one copy may overlap, and it would copy byte by byte.
 ghost use mathlib.Core.Path.{_≡_};
 ghost use Prim.Native.Nat.{_+_, _*_, _<_, _≤_};
 ghost use lib.ListN.{length, replicate};
@@ -27,7 +28,9 @@ pub fn store_row(f: Fuse, k: usize, log: &mut [u8], row: &[u8]) -> Spent
         Spent::Lands(_) => {
             let a = 16 * k;
             let e = a + 16;
-            bytes::copy(row, &mut log[a..e]);
+            let mut local = [0u8; 16];
+            bytes::copy(row, &mut local);
+            bytes::copy(&local, &mut log[a..e]);
         }
         Spent::Beyond => {}
     }
@@ -44,7 +47,9 @@ pub fn store_page(f: Fuse, p: usize, charts: &mut [u8], page: &[u8]) -> Spent
         Spent::Lands(_) => {
             let a = 32 * p;
             let e = a + 32;
-            bytes::copy(page, &mut charts[a..e]);
+            let mut local = [0u8; 32];
+            bytes::copy(page, &mut local);
+            bytes::copy(&local, &mut charts[a..e]);
         }
         Spent::Beyond => {}
     }

@@ -1,56 +1,61 @@
 -- The turns of the loops over pages and rows of the forward part, and a row of a page by its bytes. Assumes nothing.
-use Prim.Native.Nat.{ℕ, zero, suc, _+_, _-_, _/_, _%_, _≤_, _<_}
+use Prim.Native.Nat.{ℕ, zero, suc, _+_, _-_, _*_, _/_, _%_, _≤_, _<_}
 use mathlib.Core.Path.{_≡_, refl, ap, sym, _∙_}
-use mathlib.Core.Bool.{Bool, true, false, _&&_, _||_, and-true, and-false}
+use mathlib.Core.Bool.{Bool, true, false, cond}
 use mathlib.Core.List.{List}
 use native.Mathlib.Omega.{arith}
+use native.Mathlib.Nat.{add-zero}
 use native.Mathlib.Numerals.{add-one}
-use lib.Dec.{eqb}
-use borrow.Author.Tests.{ne-eqb}
+use lib.Dec.{eqb, leb}
+use borrow.Author.Tests.{eq-eqb, ne-eqb, leb-true, leb-false}
 use lib.IntN.{ℤ}
 use lib.ListN.{getD, length}
 use Rattle.book.specs.Lists.{firstFailing}
+use Rattle.book.specs.Numbers.{number}
 use Rattle.book.specs.Rows.{Row, Effect, nothing, moves, effect}
 use Rattle.book.specs.RowBytes.{rowOf, rowOfKind}
-use Rattle.book.specs.Cells.{touches, onPage}
+use Rattle.book.specs.Cells.{touches}
 use Rattle.rows.specs.Meaning.{coded, effectOf, effectMeant}
 use Rattle.rows.proofs.Meanings.{meant-coded, effect-meant}
 use Rattle.charts.proofs.Lengths.{page-length}
 use Rattle.undo.specs.Looking.{rowBytesAt}
 use Rattle.recovery_model.specs.Charts.{pageRedone, redoFrom, redoPage}
 use Rattle.recovery_model.specs.Forward.{pageWith}
-use Rattle.recovery.proofs.LookUps.{row-by-bytes}
 
 -- ── A row of a page ───────────────────────────────────────────────────────────────────────────────────────────────────
 -- the effect of a row that was looked up
 pub effect-coded : (r : Row) → effectMeant (effectOf (coded r)) ≡ effect r
 effect-coded r = effect-meant (coded r) ∙ ap effect (meant-coded r)
 
--- a row is one of the page exactly if its cell is there and it is a change, kind 2, or an undo, kind 4
-page-by-kind : (k v r c u : ℕ) (a : ℤ) (p : ℕ) → onPage p (rowOfKind k v r c u a) ≡ (eqb (c / 7) p && (eqb k 2 || eqb k 4))
-page-by-kind zero v r c u a p = sym (and-false (eqb (c / 7) p))
-page-by-kind (suc zero) v r c u a p = sym (and-false (eqb (c / 7) p))
-page-by-kind (suc (suc zero)) v r c u a p = sym (and-true (eqb (c / 7) p))
-page-by-kind (suc (suc (suc zero))) v r c u a p = sym (and-false (eqb (c / 7) p))
-page-by-kind (suc (suc (suc (suc zero)))) v r c u a p = sym (and-true (eqb (c / 7) p))
-page-by-kind (suc (suc (suc (suc (suc zero))))) v r c u a p = sym (and-false (eqb (c / 7) p))
-page-by-kind (suc (suc (suc (suc (suc (suc k)))))) v r c u a p =
-    let n = suc (suc (suc (suc (suc (suc k))))) in
-    let not-2 : eqb n 2 ≡ false = ne-eqb n 2 (λ e. omega arith) in
-    let not-4 : eqb n 4 ≡ false = ne-eqb n 4 (λ e. omega arith) in
-    rw (not-2, not-4) (sym (and-false (eqb (c / 7) p)))
+cond-same : (t : Bool) (bs : List ℕ) → bs ≡ cond t bs bs
+cond-same true bs = refl
+cond-same false bs = refl
 
-pub page-by-bytes : (b : List ℕ) (p : ℕ) → onPage p (rowOf b) ≡ (eqb (getD b 3 0 / 7) p && (eqb (getD b 0 0) 2 || eqb (getD b 0 0) 4))
-page-by-bytes b p = rw (row-by-bytes b) (page-by-kind (getD b 0 0) _ _ _ _ _ p)
+-- a row moves the page if its cell is there, whatever its kind: where it is no change or undo, its effect is nothing
+redone-by-kind : (k v r c u : ℕ) (a : ℤ) (p n : ℕ) (bs : List ℕ) → let e = effect (rowOfKind k v r c u a) in
+    pageRedone p e n bs ≡ cond (eqb (c / 7) p) (pageWith e n bs) bs
+redone-by-kind zero v r c u a p n bs = cond-same (eqb (c / 7) p) bs
+redone-by-kind (suc zero) v r c u a p n bs = cond-same (eqb (c / 7) p) bs
+redone-by-kind (suc (suc zero)) v r c u a p n bs = refl
+redone-by-kind (suc (suc (suc zero))) v r c u a p n bs = cond-same (eqb (c / 7) p) bs
+redone-by-kind (suc (suc (suc (suc zero)))) v r c u a p n bs = refl
+redone-by-kind (suc (suc (suc (suc (suc zero))))) v r c u a p n bs = cond-same (eqb (c / 7) p) bs
+redone-by-kind (suc (suc (suc (suc (suc (suc k)))))) v r c u a p n bs = cond-same (eqb (c / 7) p) bs
 
--- a row of the page moves it, another does not
-pub redone-here : (p : ℕ) (e : Effect) (n : ℕ) (bs : List ℕ) → touches p e ≡ true → pageRedone p e n bs ≡ pageWith e n bs
-redone-here p nothing n bs t = refl
-redone-here p (moves c z) n bs t = rw t
+redone-by-cell : (b : List ℕ) (p n : ℕ) (bs : List ℕ) → let e = effect (rowOf b) in pageRedone p e n bs ≡ cond (eqb (getD b 3 0 / 7) p) (pageWith e n bs) bs
+redone-by-cell b p n bs = rw (add-zero (getD b 3 0)) (redone-by-kind (number 1 b 0) _ _ (getD b 3 0) _ _ p n bs)
 
-pub redone-elsewhere : (p : ℕ) (e : Effect) (n : ℕ) (bs : List ℕ) → touches p e ≡ false → pageRedone p e n bs ≡ bs
-redone-elsewhere p nothing n bs t = refl
-redone-elsewhere p (moves c z) n bs t = rw t
+-- the cell is on the page exactly if it is one of 7 from the page's first on: a difference that wraps is too large
+module _ (b : List ℕ) (p d n : ℕ) (bs : List ℕ) (small : p < 32) (byte : d < 256) (wraps : (d + 7 * p) % 256 ≡ getD b 3 0) where
+  pub redone-here : d < 7 → pageRedone p (effect (rowOf b)) n bs ≡ pageWith (effect (rowOf b)) n bs
+  redone-here h = redone-by-cell b p n bs ∙ rw (eq-eqb (getD b 3 0 / 7) p (omega arith))
+
+  pub redone-elsewhere : 7 ≤ d → pageRedone p (effect (rowOf b)) n bs ≡ bs
+  redone-elsewhere h = redone-by-cell b p n bs ∙ rw (ne-eqb (getD b 3 0 / 7) p (go (leb 256 (d + 7 * p)) refl))
+    where
+      go : (t : Bool) → leb 256 (d + 7 * p) ≡ t → getD b 3 0 / 7 ≡ p → ⊥
+      go true e on = let l = leb-true 256 (d + 7 * p) e in omega arith
+      go false e on = let l = leb-false 256 (d + 7 * p) e in omega arith
 
 -- ── Rows applied to a page ────────────────────────────────────────────────────────────────────────────────────────────
 
@@ -64,7 +69,7 @@ module _ (log : List ℕ) (p rows : ℕ) where
   unfolding redoFrom
   redo-end k bs h = let e : rows - k ≡ 0 = omega arith in rw e
 
-redone-length : (p : ℕ) (e : Effect) (n : ℕ) (bs : List ℕ) → length (pageRedone p e n bs) ≡ length bs
+pub redone-length : (p : ℕ) (e : Effect) (n : ℕ) (bs : List ℕ) → length (pageRedone p e n bs) ≡ length bs
 redone-length p nothing n bs = refl
 redone-length p (moves c z) n bs = go (touches p (moves c z)) refl
   where

@@ -9,10 +9,9 @@ ghost use Rattle.tables_model.specs.declared.Whom.the-variants.{One};
 ghost use Rattle.tables_model.specs.Entries.{scopeIn, entries, Sized};
 ghost use Rattle.tables_model.specs.Table.{Reaches};
 ghost use Rattle.tables_model.specs.Rows.{index};
-ghost use Rattle.tables_model.specs.Meaning.{isChangeBy, beforeLast, beforeFound, beforeHighest, beforeUndone};
+ghost use Rattle.tables_model.specs.Meaning.{beforeLast, beforeFound, beforeHighest, beforeUndone};
 ghost use Rattle.recovery_model.specs.Scan.{rowIn};
 ghost use Rattle.recovery_model.specs.Checking.{Rows};
-use rows::Cell;
 use rows::Lsn;
 use rows::Row;
 use rows::Visit;
@@ -23,7 +22,7 @@ use tables_model::Counts;
 use tables_model::Found;
 use tables_model::Scope;
 use tables_model::Whom;
-use undo::look::is_change_by;
+use undo::look::change_before;
 
 // Row n, counted from 1, if it is one of the first k. Of no such row any will do.
 pub fn row_in_log(log: &[u8], k: usize, n: usize) -> Row
@@ -41,41 +40,23 @@ pub fn row_in_log(log: &[u8], k: usize, n: usize) -> Row
     row_in(&log[a..e])
 }
 
-// Row n is a change of the cell by the maker.
-fn is_change_at(log: &[u8], k: usize, n: usize, maker: Visit, cell: Cell) -> bool
-    requires { ⌜ Rows (length (now log)) k ⌝ }
-    ensures { λ r. ⌜ r ≡ isChangeBy (maker .0) (cell .0) (rowIn (now (log .entry)) k n) ⌝ }
-{
-    if n == 0 {
-        return false;
-    }
-    if k < n {
-        return false;
-    }
-    let a = 16 * (n - 1);
-    let e = a + 16;
-    is_change_by(&log[a..e], maker, cell)
-}
-
-// The change before the scope's last one, 0 for none: a search downwards, to the scope's first row.
+// The change before the scope's last one, 0 for none.
 fn before_last(log: &[u8], k: usize, s: Scope) -> Lsn
     requires { ⌜ Rows (length (now log)) k ⌝ }
     ensures { λ r. ⌜ r .0 ≡ beforeLast (rowIn (now (log .entry)) k) (scopeIn s) ⌝ }
 {
     let maker = s.maker;
     let cell = s.cell;
-    let first = s.first.0;
-    let mut n = s.last.0;
-    while 0 < n {
-        n -= 1;
-        if n < first {
-            return Lsn(0);
-        }
-        if is_change_at(log, k, n as usize, maker, cell) {
-            return Lsn(n);
-        }
-    }
-    Lsn(0)
+    let n = change_before(
+        log,
+        0,
+        k,
+        s.first.0 as usize,
+        s.last.0 as usize,
+        maker,
+        cell,
+    );
+    Lsn(n as u16)
 }
 
 // That of the entry found, 0 for none.

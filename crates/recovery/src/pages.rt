@@ -10,7 +10,7 @@ ghost use Rattle.book.specs.Cells.{touches, onPage};
 ghost use Rattle.rows.specs.Meaning.{effectMeant};
 ghost use Rattle.recovery_model.specs.Scan.{rowIn};
 ghost use Rattle.recovery_model.specs.Checking.{Rows};
-ghost use Rattle.recovery_model.specs.Charts.{isPageBy, badPageBy, pageRedone, redoFrom, redoPage, redoCharts};
+ghost use Rattle.recovery_model.specs.Charts.{isPageBy, badPageBy, redoFrom, redoPage, redoCharts};
 ghost use Rattle.recovery_model.specs.Forward.{pageWith};
 use crate::look::row_in_log;
 use charts::check::page_ok;
@@ -22,6 +22,7 @@ use rows::Lsn;
 use rows::effects::effect_of;
 use rows::numbers::index;
 use rows::reader::row_in;
+use std::num::wrapping_sub_u8;
 
 // ── The check ─────────────────────────────────────────────────────────────────────────────────────────────────────────
 
@@ -87,14 +88,6 @@ pub fn bad_page(log: &[u8], rows: usize, charts: &[u8]) -> usize
 
 // ── The forward part ──────────────────────────────────────────────────────────────────────────────────────────────────
 
-// The 16 bytes are a change or an undo of page p: cell and kind alone are looked at, the cell first, since it rules most rows out.
-fn is_row_of(b: &[u8], p: usize) -> bool
-    requires { ⌜ length (now b) ≡ 16 ⌝ }
-    ensures { λ r. ⌜ r ≡ onPage p (rowOf (now (b .entry))) ⌝ }
-{
-    is_on_page(Cell(b[3]), p) && (b[0] == 2 || b[0] == 4)
-}
-
 // The effect of row n on the page of its cell.
 fn move_page(page: &mut [u8], effect: Effect, n: Lsn)
     requires { ⌜ length (now page) ≡ 32 ⌝ }
@@ -107,29 +100,31 @@ fn move_page(page: &mut [u8], effect: Effect, n: Lsn)
     }
 }
 
-// The effect of row n, 16 bytes, on page p.
-fn redo_row(b: &[u8], page: &mut [u8], p: usize, n: Lsn)
+// The effect of row n, 16 bytes, on the page of its cell.
+fn redo_row(b: &[u8], page: &mut [u8], n: Lsn)
     requires { ⌜ length (now b) ≡ 16 ⌝ }
     requires { ⌜ length (now page) ≡ 32 ⌝ }
-    ensures { λ _. ⌜ now (page .exit) ≡ pageRedone p (effect (rowOf (now (b .entry)))) (n .0) (now (page .entry)) ⌝ }
+    ensures { λ _. ⌜ now (page .exit) ≡ pageWith (effect (rowOf (now (b .entry)))) (n .0) (now (page .entry)) ⌝ }
 {
-    if is_row_of(b, p) {
-        let row = row_in(b);
-        move_page(page, effect_of(row), n);
-    }
+    let row = row_in(b);
+    move_page(page, effect_of(row), n);
 }
 
-// The rows from place `from` on, up to row `rows`, applied to page p.
+// The rows from place `from` on, up to row `rows`, applied to page p. Most rows are of other pages: one comparison of the cell rules them out.
 fn redo_rows(log: &[u8], from: usize, rows: usize, page: &mut [u8], p: usize)
     requires { ⌜ Rows (length (now log)) rows ⌝ }
     requires { ⌜ length (now page) ≡ 32 ⌝ }
+    requires { ⌜ p < 32 ⌝ }
     ensures { λ _. ⌜ now (page .exit) ≡ redoFrom (rows - from) from (now (log .entry)) p (now (page .entry)) ⌝ }
 {
+    let lowest = (7 * p) as u8;
     let mut k = from;
     while k < rows {
         let a = 16 * k;
-        let e = a + 16;
-        redo_row(&log[a..e], page, p, Lsn((k + 1) as u16));
+        if wrapping_sub_u8(log[a + 3], lowest) < 7 {
+            let e = a + 16;
+            redo_row(&log[a..e], page, Lsn((k + 1) as u16));
+        }
         k += 1;
     }
 }
@@ -138,6 +133,7 @@ fn redo_rows(log: &[u8], from: usize, rows: usize, page: &mut [u8], p: usize)
 fn redo_page(log: &[u8], rows: usize, page: &mut [u8], p: usize)
     requires { ⌜ Rows (length (now log)) rows ⌝ }
     requires { ⌜ length (now page) ≡ 32 ⌝ }
+    requires { ⌜ p < 32 ⌝ }
     ensures { λ _. ⌜ now (page .exit) ≡ redoPage (now (log .entry)) rows p (now (page .entry)) ⌝ }
 {
     let mark = read_mark(page);

@@ -10,7 +10,9 @@ use lib.Dec.{eqb}
 use borrow.Author.Tests.{eqb-true, eqb-false, eq-eqb}
 use Rattle.book.specs.Limits.{kindLimit}
 use Rattle.book.specs.Numbers.{number}
-use Rattle.book.specs.RowBytes.{mayBe, isRowBytes}
+use Rattle.book.specs.Lists.{eqBytes}
+use Rattle.book.specs.Rows.{Row, begin, change, handOver, undo, commit, abort}
+use Rattle.book.specs.RowBytes.{kindOf, mayBe, rowBytes, rowOf, isRowBytes}
 use Rattle.book.proofs.Lists.{and-l, and-r, and-i, clash, is-false}
 use Rattle.book.proofs.RowBytes.{by-table, table-bytes}
 use Rattle.rows.specs.Table.{okByte, asTable}
@@ -52,6 +54,30 @@ blank x0 x1 x2 x3 x4 x5 x6 x7 x8 x9 x10 x11 x12 x13 x14 x15 = refl
 pub blank-by-table : (b : List ℕ) → length b ≡ 16 → asTable 16 0 0 b ≡ isBlank b
 blank-by-table b e =
     ap (asTable 16 0 0) (sixteen b e) ∙ blank _ _ _ _ _ _ _ _ _ _ _ _ _ _ _ _ ∙ sym (ap isBlank (sixteen b e))
+
+-- ── A row's bytes are not blank ───────────────────────────────────────────────────────────────────────────────────────
+
+first-byte : (n : ℕ) (r : Row) (x : ℕ) (xs : List ℕ) → eqBytes (rowBytes n r) (x ∷ xs) ≡ true → kindOf r ≡ x
+unfolding rowBytes
+first-byte n (begin v) x xs e = eqb-true 1 x (and-l (eqb 1 x) _ e)
+first-byte n (change v c a) x xs e = eqb-true 2 x (and-l (eqb 2 x) _ e)
+first-byte n (handOver g r c) x xs e = eqb-true 3 x (and-l (eqb 3 x) _ e)
+first-byte n (undo h c u a) x xs e = eqb-true 4 x (and-l (eqb 4 x) _ e)
+first-byte n (commit v) x xs e = eqb-true 5 x (and-l (eqb 5 x) _ e)
+first-byte n (abort v) x xs e = eqb-true 6 x (and-l (eqb 6 x) _ e)
+
+some-kind : (r : Row) → kindOf r ≡ 0 → ⊥
+some-kind (begin v) e = omega arith
+some-kind (change v c a) e = omega arith
+some-kind (handOver g r c) e = omega arith
+some-kind (undo h c u a) e = omega arith
+some-kind (commit v) e = omega arith
+some-kind (abort v) e = omega arith
+
+pub not-blank : (n : ℕ) (b : List ℕ) → isRowBytes n b ≡ true → isBlank b ≡ false
+not-blank n [] t = refl
+not-blank n (x ∷ xs) t =
+    is-false _ (λ z. some-kind (rowOf (x ∷ xs)) (first-byte n (rowOf (x ∷ xs)) x xs t ∙ eqb-true x 0 (and-l (eqb x 0) _ z)))
 
 -- ── A row's bytes ─────────────────────────────────────────────────────────────────────────────────────────────────────
 

@@ -63,20 +63,20 @@ pub fn row_in(b: &[u8]) -> Row
     }
 }
 
-// What the bytes of row n are.
+// What the bytes of row n are. Most are a row's, so that test comes first.
 pub fn read_row(b: &[u8], n: Lsn) -> Read
     requires { ⌜ length (now b) ≡ 16 ⌝ }
     ensures { λ r. ⌜ r ≡ readOf (n .0) (now (b .entry)) ⌝ }
 {
-    if is_blank(b) {
-        return Read::Blank;
-    }
     if has_row_bytes(b, n) {
         let row = row_in(b);
         if in_range(row) {
             return Read::Valid(row);
         }
         return Read::OutOfRange;
+    }
+    if is_blank(b) {
+        return Read::Blank;
     }
     Read::Malformed
 }

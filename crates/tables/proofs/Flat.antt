@@ -1,15 +1,16 @@
 -- The flat scope table and its entries: how many there are, what stands at each, and what seven stores to one of them do. Assumes nothing.
-use Prim.Native.Nat.{ℕ, zero, suc, _+_, _*_, _%_, _≤_, _<_}
+use Prim.Native.Nat.{ℕ, zero, suc, _+_, _-_, _*_, _%_, _≤_, _<_}
 use mathlib.Core.Path.{_≡_, refl, sym, _∙_, ap}
 use mathlib.Core.Logic.{_≢_}
 use mathlib.Core.Bool.{Bool, true, false, not}
 use mathlib.Core.List.{List, [], _∷_, _++_, append-assoc}
 use native.Mathlib.Nat.{not-suc-le-zero, le-of-suc-le-suc, le-refl, add-zero, zero-add, suc-add, add-suc}
 use native.Mathlib.Omega.{arith}
-use lib.ListN.{length, take, drop, set, getD, replicate, List·getD-append}
-use lib.Seq.{sets, sets-eq, getD-append-add, getD-set-other, length-take-le}
-use lib.Dec.{eqb}
-use Rattle.book.specs.Lists.{tabulate}
+use lib.ListN.{length, take, drop, set, getD, replicate, length-append, length-replicate, List·getD-append}
+use lib.Seq.{sets, sets-eq, ext-getD, getD-append-add, getD-take, getD-set-other, length-take-le}
+use lib.Dec.{eqb, leb}
+use borrow.Author.Tests.{leb-true, leb-false}
+use Rattle.book.specs.Lists.{padTo, tabulate}
 use Rattle.book.specs.Scopes.{unused}
 use Rattle.tables_model.specs.Entries.{entryAt, entries, flag}
 
@@ -53,6 +54,55 @@ entries-at t i h = tabulate-at 64 0 i (entryAt t) unused h ∙ rw zero-add
 pub entries-zero : (n : ℕ) → n ≡ 448 → entries (replicate n 0) ≡ replicate 64 unused
 unfolding entries
 entries-zero n e = rw e
+
+-- ── A table cut short ─────────────────────────────────────────────────────────────────────────────────────────────────
+
+-- places of a list that is cut at place k and filled up
+module _ {A : Type 0} (d : A) where
+  cut-before : (xs : List A) (k n i : ℕ) → i < k → k ≤ length xs → getD (take k xs ++ replicate n d) i d ≡ getD xs i d
+  cut-before xs k n i h w =
+      let z = length-take-le k xs w in List·getD-append (take k xs) (replicate n d) d i (omega arith) ∙ getD-take k xs i d h
+
+  filler : (xs : List A) (n i : ℕ) → length xs ≤ i → getD (xs ++ replicate n d) i d ≡ d
+  filler [] zero i h = refl
+  filler [] (suc n) zero h = refl
+  filler [] (suc n) (suc i) h = filler [] n i (omega arith)
+  filler (x ∷ xs) n zero h = absurd (not-suc-le-zero h)
+  filler (x ∷ xs) n (suc i) h = filler xs n i (le-of-suc-le-suc h)
+
+-- where all numbers from entry k on are 0, the entries from k on are unused
+module _ (t : List ℕ) (k n : ℕ) (w : k ≤ 64) (z : length t ≡ 448) where
+  abbrev cut : List ℕ
+  cut = take (7 * k) t ++ replicate n 0
+
+  entry-before : (i : ℕ) → i < k → entryAt cut i ≡ entryAt t i
+  entry-before i h =
+      let at : (j : ℕ) → j < 7 → getD cut (7 * i + j) 0 ≡ getD t (7 * i + j) 0 = λ j q. cut-before 0 t (7 * k) n (7 * i + j) (omega arith) (omega arith) in
+      rw (at 0 (omega arith), at 1 (omega arith), at 2 (omega arith), at 3 (omega arith), at 4 (omega arith), at 5 (omega arith), at 6 (omega arith))
+
+  entry-from : (i : ℕ) → k ≤ i → entryAt cut i ≡ unused
+  entry-from i h =
+      let long = length-take-le (7 * k) t (omega arith) in
+      let at : (j : ℕ) → getD cut (7 * i + j) 0 ≡ 0 = λ j. filler 0 (take (7 * k) t) n (7 * i + j) (omega arith) in
+      rw (at 0, at 1, at 2, at 3, at 4, at 5, at 6)
+
+  cut-at : (i : ℕ) (b : Bool) → leb k i ≡ b → i < 64 → getD (entries cut) i unused ≡ getD (padTo 64 unused (take k (entries t))) i unused
+  cut-at i true e h =
+      let long = entries-length t in
+      let short = length-take-le k (entries t) (omega arith) in
+      let l = leb-true k i e in
+      entries-at cut i h ∙ entry-from i l ∙ sym (filler unused (take k (entries t)) (64 - length (take k (entries t))) i (omega arith))
+  cut-at i false e h =
+      let long = entries-length t in
+      let l = leb-false k i e in
+      entries-at cut i h ∙ entry-before i l ∙ sym (cut-before unused (entries t) k (64 - length (take k (entries t))) i l (omega arith) ∙ entries-at t i h)
+
+  pub entries-cut : entries cut ≡ padTo 64 unused (take k (entries t))
+  entries-cut =
+      let long = entries-length t in
+      let short = length-take-le k (entries t) (omega arith) in
+      let all : length (padTo 64 unused (take k (entries t))) ≡ 64 = simp (length-append, length-replicate) (omega arith) in
+      ext-getD unused (entries cut) _ (entries-length cut ∙ sym all) (λ i h. cut-at i (leb k i) refl (rw entries-length at h))
 
 -- ── Seven stores ──────────────────────────────────────────────────────────────────────────────────────────────────────
 

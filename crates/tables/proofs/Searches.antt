@@ -1,22 +1,26 @@
 -- Turns of the searches in the scope table, and that what they find is an entry in use. Assumes nothing.
 use Prim.Native.Nat.{ℕ, suc, _+_, _≤_, _<_}
-use mathlib.Core.Path.{_≡_, refl}
+use mathlib.Core.Path.{_≡_, refl, _∙_}
 use mathlib.Core.Bool.{Bool, true, false, cond, _&&_, _||_}
 use mathlib.Core.List.{List, [], _∷_}
 use native.Mathlib.Numerals.{add-one}
 use native.Mathlib.Omega.{arith}
 use lib.ListN.{length, take, getD, length-take}
-use lib.Dec.{ltb}
+use lib.Dec.{eqb, ltb}
+use borrow.Author.Tests.{le-ltb}
 use Rattle.book.specs.Lists.{any}
 use Rattle.book.specs.Scopes.{Scope, unused}
 use Rattle.tables_model.specs.declared.Whom.{Whom}
 use Rattle.tables_model.specs.declared.Found.{Found}
 use Rattle.tables_model.specs.declared.Found.the-variants.{At, Nothing}
-use Rattle.tables_model.specs.declared.Candidate.{Candidate}
 use Rattle.tables_model.specs.Entries.{entries}
-use Rattle.tables_model.specs.Table.{findFrom, find, covers, highestFrom, highest, betterOf, countAll}
+use Rattle.tables_model.specs.Table.{findFrom, find, covers, highestFrom, highest, lastBy, countAll}
 use Rattle.tables.proofs.Loops.{left, left-next}
 use Rattle.tables.proofs.Flat.{entries-length}
+
+-- the highest open change so far is `last`, that of entry i; none where it is 0
+abbrev pub foundAt : ℕ → ℕ → Found
+foundAt last i = cond (eqb last 0) Nothing (At i)
 
 -- ── Turns ─────────────────────────────────────────────────────────────────────────────────────────────────────────────
 
@@ -35,15 +39,17 @@ module _ (t : List ℕ) (used i : ℕ) (h : i < used) (k : used ≤ 64) where
   pub count-next : countAll (left used i (entries t)) ≡ getD (entries t) i unused .count + countAll (left used (i + 1) (entries t))
   count-next = rw next
 
-  better-by : (w : Whom) (b : Candidate) (q : Bool) → covers w (getD (entries t) i unused .holder) && ltb (b .last .0) (getD (entries t) i unused .last) ≡ q
-      → (r : Candidate) → r ≡ betterOf w i b (getD (entries t) i unused)
-      → highestFrom w i (b .last .0) (b .at) (left used i (entries t)) ≡ highestFrom w (i + 1) (r .last .0) (r .at) (left used (i + 1) (entries t))
-  better-by w b true e r z = rw (z, next, e, add-one i)
-  better-by w b false e r z = rw (z, next, e, add-one i)
+  highest-by : (w : Whom) (best : ℕ) (f : Found) (q : Bool) → covers w (getD (entries t) i unused .holder) ≡ q
+      → let x = lastBy w (getD (entries t) i unused) in
+      highestFrom w i best f (left used i (entries t))
+      ≡ cond (ltb best x) (highestFrom w (i + 1) x (At i) (left used (i + 1) (entries t))) (highestFrom w (i + 1) best f (left used (i + 1) (entries t)))
+  highest-by w best f true e = rw (next, e, add-one i)
+  highest-by w best f false e = rw (next, e, add-one i, le-ltb best 0 (omega arith))
 
-  pub highest-next : (w : Whom) (b r : Candidate) → r ≡ betterOf w i b (getD (entries t) i unused)
-      → highestFrom w i (b .last .0) (b .at) (left used i (entries t)) ≡ highestFrom w (i + 1) (r .last .0) (r .at) (left used (i + 1) (entries t))
-  highest-next w b r = better-by w b (covers w (getD (entries t) i unused .holder) && ltb (b .last .0) (getD (entries t) i unused .last)) refl r
+  pub highest-next : (w : Whom) (best : ℕ) (f : Found) (x : ℕ) → x ≡ lastBy w (getD (entries t) i unused)
+      → highestFrom w i best f (left used i (entries t))
+      ≡ cond (ltb best x) (highestFrom w (i + 1) x (At i) (left used (i + 1) (entries t))) (highestFrom w (i + 1) best f (left used (i + 1) (entries t)))
+  highest-next w best f x e = highest-by w best f (covers w (getD (entries t) i unused .holder)) refl ∙ rw e
 
 -- ── Where they end ────────────────────────────────────────────────────────────────────────────────────────────────────
 

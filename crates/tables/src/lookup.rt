@@ -1,9 +1,10 @@
 // What is found in the scope table: the scope that may grow, a cell that a visit holds, the highest open change, the number of open changes.
 ghost use mathlib.Core.Path.{_≡_};
 ghost use Prim.Native.Nat.{_<_};
-ghost use lib.ListN.{length};
-ghost use Rattle.tables_model.specs.Entries.{Sized, scopeIn, entries as entriesOf};
-ghost use Rattle.tables_model.specs.Table.{find, grows, among, holdsCell, highest as highestIn, lastAt, openCount, betterOf, Reaches};
+ghost use lib.ListN.{length, getD};
+ghost use Rattle.book.specs.Scopes.{unused};
+ghost use Rattle.tables_model.specs.Entries.{Sized, Inside, entries as entriesOf};
+ghost use Rattle.tables_model.specs.Table.{find, grows, among, holdsCell, highest as highestIn, lastAt, openCount, lastBy, Reaches};
 use crate::entries::count_at;
 use crate::entries::entry_at;
 use crate::scopes::covers;
@@ -12,10 +13,8 @@ use crate::scopes::may_grow;
 use rows::Cell;
 use rows::Lsn;
 use rows::Visit;
-use tables_model::Candidate;
 use tables_model::CellSet;
 use tables_model::Found;
-use tables_model::Scope;
 use tables_model::Whom;
 
 // The first entry in use that a change of the cell by the visit grows.
@@ -50,21 +49,16 @@ pub fn holds_cell(t: &[u16], used: usize, v: Visit, cs: CellSet) -> bool
     false
 }
 
-// The entry instead of the best one so far, where it has a higher open change of these visits.
-fn better(best: Candidate, i: usize, e: Scope, w: Whom) -> Candidate
-    ensures { λ r. ⌜ r ≡ betterOf w i best (scopeIn e) ⌝ }
+// The highest open change of entry i, 0 for none and where these visits do not hold it. It reads two numbers of the entry.
+fn last_by(t: &[u16], i: usize, w: Whom) -> u16
+    requires { ⌜ Inside (length (now t)) i ⌝ }
+    ensures { λ r. ⌜ r ≡ lastBy w (getD (entriesOf (now (t .entry))) i unused) ⌝ }
 {
-    let holder = e.holder;
-    let last = e.last;
-    if covers(w, holder) {
-        if best.last.0 < last.0 {
-            return Candidate {
-                last: last,
-                at: Found::At(i),
-            };
-        }
+    let at = 7 * i;
+    if covers(w, Visit(t[at + 1])) {
+        return t[at + 4];
     }
-    best
+    0
 }
 
 // The entry with the highest open change of these visits.
@@ -72,18 +66,21 @@ pub fn highest(t: &[u16], used: usize, w: Whom) -> Found
     requires { ⌜ Sized (length (now t)) used ⌝ }
     ensures { λ r. ⌜ r ≡ highestIn w used (entriesOf (now (t .entry))) ⌝ }
 {
-    let mut best = Candidate {
-        last: Lsn(0),
-        at: Found::Nothing,
-    };
+    let mut last: u16 = 0;
+    let mut at: usize = 0;
     let mut i: usize = 0;
     while i < used {
-        let e = entry_at(t, i);
-        best = better(best, i, e, w);
+        let x = last_by(t, i, w);
+        if last < x {
+            last = x;
+            at = i;
+        }
         i += 1;
     }
-    let at = best.at;
-    at
+    if last == 0 {
+        return Found::Nothing;
+    }
+    Found::At(at)
 }
 
 // The highest open change of the entry found, 0 for none.

@@ -4,7 +4,7 @@ ghost use Prim.Native.Nat.{_-_};
 ghost use Rattle.book.specs.Scopes.{unused as unusedScope};
 ghost use Rattle.tables_model.specs.Entries.{scopeIn};
 ghost use Rattle.tables_model.specs.Table.{grows, among, isHeld, covers as coversBy, grown as grownScope};
-ghost use Rattle.tables_model.specs.Table.{started as startedScope, passed as passedScope, handedOn, lowered as loweredScope};
+ghost use Rattle.tables_model.specs.Table.{started as startedScope, passed as passedScope, lowered as loweredScope};
 use rows::Cell;
 use rows::Lsn;
 use rows::Visit;
@@ -103,16 +103,6 @@ pub fn passed(e: Scope, r: Visit) -> Scope
     x.holder = r;
     x.handed = true;
     x
-}
-
-// The scope passes to the receiver, if the giver holds it for these cells.
-pub fn handed_on(e: Scope, g: Visit, r: Visit, cs: CellSet) -> Scope
-    ensures { λ x. ⌜ scopeIn x ≡ handedOn (g .0) (r .0) (among cs) (scopeIn e) ⌝ }
-{
-    if is_held(e, g, cs) {
-        return passed(e, r);
-    }
-    e
 }
 
 fn one_less(n: u16) -> u16

@@ -7,14 +7,15 @@ ghost use Rattle.tables_model.specs.declared.Found.the-variants.{At};
 ghost use Rattle.tables_model.specs.Entries.{Sized, Inside, entries as entriesOf};
 ghost use Rattle.tables_model.specs.Table.{scopesIn, MayNote, Moves, ClosedRanks, scopesChanged};
 ghost use Rattle.tables_model.specs.Table.{among, scopesHanded, scopesEnded, handedOn, movedAt, undoneAt};
+use crate::entries::clear;
 use crate::entries::entry_at;
 use crate::entries::put_entry;
 use crate::lookup::find_growing;
 use crate::scopes::grown;
-use crate::scopes::handed_on;
+use crate::scopes::is_held;
 use crate::scopes::lowered;
+use crate::scopes::passed;
 use crate::scopes::started;
-use crate::scopes::unused;
 use rows::Cell;
 use rows::Lsn;
 use rows::Visit;
@@ -47,7 +48,9 @@ fn hand_entry(t: &mut [u16], i: usize, g: Visit, r: Visit, cs: CellSet)
         ≡ set (entriesOf (now (t .entry))) i (handedOn (g .0) (r .0) (among cs) (getD (entriesOf (now (t .entry))) i unusedScope)) ⌝ }
 {
     let e = entry_at(t, i);
-    put_entry(t, i, handed_on(e, g, r, cs));
+    if is_held(e, g, cs) {
+        put_entry(t, i, passed(e, r));
+    }
 }
 
 // A hand-over: every entry of these cells that the giver holds passes to the receiver.
@@ -71,7 +74,7 @@ pub fn undo_at(t: &mut [u16], i: usize, before: Lsn)
     put_entry(t, i, lowered(e, before));
 }
 
-// Entry i is put behind the entries kept so far, unless the visit holds it. Returns the entries then kept.
+// Entry i is put behind the entries kept so far, unless the visit holds it or it stands there already. Returns the entries then kept.
 fn move_entry(t: &mut [u16], kept: usize, i: usize, v: Visit) -> usize
     requires { ⌜ Moves (length (now t)) kept i ⌝ }
     ensures { λ r. ⌜ scopesIn r (now (t .exit)) ≡ movedAt (v .0) i (scopesIn kept (now (t .entry))) ⌝ }
@@ -79,6 +82,9 @@ fn move_entry(t: &mut [u16], kept: usize, i: usize, v: Visit) -> usize
     let e = entry_at(t, i);
     if e.holder.0 == v.0 {
         return kept;
+    }
+    if kept == i {
+        return kept + 1;
     }
     put_entry(t, kept, e);
     kept + 1
@@ -103,11 +109,8 @@ fn clear_from(t: &mut [u16], k: usize)
     requires { ⌜ Sized (length (now t)) k ⌝ }
     ensures { λ _. ⌜ entriesOf (now (t .exit)) ≡ padTo 64 unusedScope (take k (entriesOf (now (t .entry)))) ⌝ }
 {
-    let mut i = k;
-    while i < 64 {
-        put_entry(t, i, unused());
-        i += 1;
-    }
+    let at = 7 * k;
+    clear(&mut t[at..]);
 }
 
 // A commit or an abort: the entries that another visit holds close ranks, the rest is unused. Returns the entries then in use.

@@ -15,7 +15,6 @@ use Rattle.tables_model.specs.declared.CellSet.{CellSet}
 use Rattle.tables_model.specs.declared.CellSet.the-variants.{Only, Every}
 use Rattle.tables_model.specs.declared.Found.{Found}
 use Rattle.tables_model.specs.declared.Found.the-variants.{At, Nothing}
-use Rattle.tables_model.specs.declared.Candidate.{Candidate}
 use Rattle.tables_model.specs.Entries.{entries as entriesOf, flatLength}
 
 -- ── Looking ───────────────────────────────────────────────────────────────────────────────────────────────────────────
@@ -158,9 +157,9 @@ pub record MayNote (t : List ℕ) (used v c : ℕ) : Type 0 where
   pub within : used ≤ scopeLimit
   pub room : find (grows v c) used (entriesOf t) ≡ Nothing → used < scopeLimit
 
--- the entry instead of the best one so far, where it has a higher open change of these visits
-abbrev pub betterOf : Whom → ℕ → Candidate → Scope → Candidate
-betterOf w i b s = cond (covers w (s .holder) && ltb (b .last .0) (s .last)) (record { last = record { 0 = s .last }; at = At i }) b
+-- the entry's highest open change, 0 where these visits do not hold it
+abbrev pub lastBy : Whom → Scope → ℕ
+lastBy w s = cond (covers w (s .holder)) (s .last) 0
 
 -- entry i is to be put at a place before it, or stays
 pub record Moves (size kept i : ℕ) : Type 0 where

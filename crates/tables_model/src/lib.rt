@@ -55,12 +55,6 @@ pub enum Found {
     Nothing,
 }
 
-// What a search for the highest open change has seen: the row, and its entry.
-pub struct Candidate {
-    pub last: Lsn,
-    pub at: Found,
-}
-
 // What the row rules say of a row whose bytes are well formed.
 pub enum Verdict {
     Allowed,

@@ -1,3 +1,4 @@
+-- `journal::writes::store_page` meets its contract. Assumes nothing.
 use Prim.Native.Nat.{_+_, _*_, _-_}
 use native.Mathlib.Omega.{arith}
 use mathlib.Core.Path.{_≡_, _∙_}
@@ -7,55 +8,56 @@ use borrow.Author.Needs.{needs}
 use Rattle.journal.proofs.writes.store_page.Statement.{statement}
 use Rattle.journal.proofs.writes.store_page.Tie as tie
 
--- src/writes.rt:42:9
 spend-requires : tie.Need-spend-requires
 spend-requires c κs = search needs
 
--- src/writes.rt:45:21
 enum-told : tie.Need-enum-told
 enum-told c = search needs
 
--- src/writes.rt:45:21
 mul-a : tie.Need-mul-a
 mul-a c = search needs
 
--- src/writes.rt:46:21
 add-e : tie.Need-add-e
 add-e c = search needs
 
--- src/writes.rt:47:31
+slice-aggregate-copy : tie.Need-slice-aggregate-copy
+slice-aggregate-copy c = search needs
+
+copy-requires : tie.Need-copy-requires
+copy-requires c κs = search needs
+
+slice-aggregate-copy-2 : tie.Need-slice-aggregate-copy-2
+slice-aggregate-copy-2 c = search needs
+
 sub-copy : tie.Need-sub-copy
 sub-copy c = search needs
 
--- src/writes.rt:47:31
 part-copy-start : tie.Need-part-copy-start
 part-copy-start c = search needs
 
--- src/writes.rt:47:31
 part-copy-end : tie.Need-part-copy-end
 part-copy-end c = search needs
 
--- src/writes.rt:47:13
-copy-requires : tie.Need-copy-requires
-copy-requires c κs = search needs
+copy-requires-2 : tie.Need-copy-requires-2
+copy-requires-2 c κs = search needs
 
 enum-told-2 : tie.Need-enum-told-2
 enum-told-2 c = search needs
 
--- src/writes.rt:38:1
 same-length : tie.Need-same-length
 same-length c = search needs
 
--- src/writes.rt:38:1
 returns : tie.Need-returns
 returns c =
-    let s = c .before .before .before .before .before .before in
-    let a = c .before .before .before .before .before .before .before .before .before .args in
+    let w = c .before .before .before .before .before .before in
+    let s = w .before .before .before .before in
+    let a = s .before .before .before .args in
     let e : 32 * a .p + 32 - 32 * a .p ≡ 32 = omega arith in
-    let f = c .before .before .copy .ensures .1 ∙ copied (a .page .now) _ (simp (length-take, length-drop) (omega arith)) in
-    (s .spend .ensures, rw (← (s .spend .ensures), c .before .before .before .before .enum-told .given .1, e, f))
+    let held = w .copy .ensures .1 ∙ copied (a .page .now) _ (omega arith) in
+    let written = rw held at (c .before .before .copy2 .ensures .1) in
+    let f = written ∙ copied (a .page .now) _ (simp (length-take, length-drop) (omega arith)) in
+    (s .spend .ensures, rw (← (s .spend .ensures), w .before .before .enum-told .given .1, e, f))
 
--- src/writes.rt:38:1
 returns-2 : tie.Need-returns-2
 returns-2 c = search needs
 
@@ -67,10 +69,13 @@ store-page-spec =
     enum-told
     mul-a
     add-e
+    slice-aggregate-copy
+    copy-requires
+    slice-aggregate-copy-2
     sub-copy
     part-copy-start
     part-copy-end
-    copy-requires
+    copy-requires-2
     enum-told-2
     same-length
     returns

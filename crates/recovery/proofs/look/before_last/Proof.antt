@@ -1,66 +1,31 @@
--- `recovery::look::before_last` meets its contract.
--- The loop's invariant: the search from `n` on finds what the search from the scope's last change on finds. Assumes nothing.
-use Prim.Native.Nat.{_-_, _≤_}
-use mathlib.Core.Path.{_≡_, refl, sym, _∙_}
-use native.Mathlib.Omega.{arith}
-use Rattle.tables_model.specs.Meaning.{previous}
+-- `recovery::look::before_last` meets its contract. Assumes nothing.
+use mathlib.Core.Path.{_≡_, _∙_}
+use native.Mathlib.Nat.{sub-zero}
+use borrow.Author.Needs.{needs}
+use Rattle.undo.specs.Looking.{rowOfPart}
+use Rattle.undo.proofs.LookUps.{same-below}
 use Rattle.recovery_model.specs.Scan.{rowIn}
-use Rattle.undo.proofs.LookUps.{stops, finds, passes}
 use Rattle.recovery.proofs.look.before_last.Statement.{statement}
 use Rattle.recovery.proofs.look.before_last.Tie as tie
 
-abbrev Inv-loop : tie.InvT-loop
-Inv-loop log k maker cell first n₀ n =
-    let look = rowIn log k in (n ≤ n₀) × (previous look (maker .0) (cell .0) first n₀ ≡ previous look (maker .0) (cell .0) first n)
+cast-change-before : tie.Need-cast-change-before
+cast-change-before c = search needs
 
-abbrev μ-loop : tie.MeasureT-loop
-μ-loop log k maker cell first n₀ n = n
+cast-change-before-2 : tie.Need-cast-change-before-2
+cast-change-before-2 c = search needs
 
-loop-holds : tie.Need-loop-holds Inv-loop μ-loop
-loop-holds c = (omega arith, refl)
+change-before-requires : tie.Need-change-before-requires
+change-before-requires c κs = search needs
 
-sub-n : tie.Need-sub-n Inv-loop μ-loop
-sub-n c = omega arith
+cast-t9 : tie.Need-cast-t9
+cast-t9 c = search needs
 
-returns : tie.Need-returns Inv-loop μ-loop
+returns : tie.Need-returns
 returns c =
-    let l = c .before .before .loop in
-    sym (l .inv .1 ∙ stops _ _ _ _ (l .n - 1) (l .n) (omega arith) (c .if1 .taken))
-
-cast-is-change-at : tie.Need-cast-is-change-at Inv-loop μ-loop
-cast-is-change-at c = omega arith
-
-is-change-at-requires : tie.Need-is-change-at-requires Inv-loop μ-loop
-is-change-at-requires c κs = c .before .before .before .before .before .before .pre
-
-returns-2 : tie.Need-returns-2 Inv-loop μ-loop
-returns-2 c =
-    let l = c .before .before .before .before .loop in
-    sym (l .inv .1 ∙ finds _ _ _ _ (l .n - 1) (l .n) (omega arith) (omega arith) refl (sym (c .before .is-change-at .ensures) ∙ c .if2 .taken))
-
-loop-less : tie.Need-loop-less Inv-loop μ-loop
-loop-less c = omega arith
-
-loop-again : tie.Need-loop-again Inv-loop μ-loop
-loop-again c =
-    let l = c .before .before .before .before .loop in
-    (omega arith, l .inv .1 ∙ passes _ _ _ _ (l .n - 1) (l .n) (omega arith) (omega arith) (sym (c .before .is-change-at .ensures) ∙ c .if2 .left))
-
-returns-3 : tie.Need-returns-3 Inv-loop μ-loop
-returns-3 c = let l = c .before .loop in let e : l .n ≡ 0 = omega arith in sym (l .inv .1 ∙ rw e)
+    let a = c .before .before .before .before .before .before .args in
+    let s = a .s in
+    let parts = rowOfPart (a .log .now) 0 (a .k) in
+    c .change-before .ensures .0 ∙ same-below parts (rowIn (a .log .now) (a .k)) (s .maker .0) (s .cell .0) (s .first .0) (s .last .0) (λ n h. rw (sub-zero n))
 
 pub before-last-spec : {M : Type 1} → statement M
-before-last-spec =
-    tie.close
-    (tie.spec
-    Inv-loop
-    μ-loop
-    loop-holds
-    sub-n
-    returns
-    cast-is-change-at
-    is-change-at-requires
-    returns-2
-    loop-less
-    loop-again
-    returns-3)
+before-last-spec = tie.close (tie.spec cast-change-before cast-change-before-2 change-before-requires cast-t9 returns)

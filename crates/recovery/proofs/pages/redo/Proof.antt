@@ -36,7 +36,7 @@ part-redo-page-end c = let k = laid-length _ _ _ _ (c .before .loop .inv .1) (om
 redo-page-requires : tie.Need-redo-page-requires Inv-loop μ-loop
 redo-page-requires c κs =
     let k = laid-length _ _ _ _ (c .before .before .loop .inv .1) (omega arith) in
-    (c .before .before .before .before .before .pre .0, simp (length-take, length-drop) (omega arith))
+    (c .before .before .before .before .before .pre .0, (simp (length-take, length-drop) (omega arith), omega arith))
 
 add-p : tie.Need-add-p Inv-loop μ-loop
 add-p c = omega arith

@@ -1,71 +1,53 @@
--- `tables::updates::clear_from` meets its contract. The loop's invariant: filled up from here, the table is what it is filled up from entry k. Assumes nothing.
-use Prim.Native.Nat.{_-_, _≤_}
-use mathlib.Core.Path.{_≡_, refl, sym, _∙_}
+-- `tables::updates::clear_from` meets its contract. Assumes nothing.
+use Prim.Native.Nat.{ℕ, _-_, _*_}
+use mathlib.Core.Path.{_≡_}
+use mathlib.Core.List.{[], append-nil}
 use native.Mathlib.Omega.{arith}
-use lib.Seq.{length-take-le}
-use lib.ListN.{length}
-use Rattle.book.specs.Scopes.{unused}
-use Rattle.tables_model.specs.Entries.{entries}
-use Rattle.tables.proofs.Loops.{filled, filled-next, filled-end}
-use Rattle.tables.proofs.Flat.{entries-length}
+use lib.ListN.{length, take, drop, replicate, length-drop, drop-of-length-le}
+use Rattle.tables.proofs.Flat.{entries-cut}
+use borrow.Author.Needs.{needs}
 use Rattle.tables.proofs.updates.clear_from.Statement.{statement}
 use Rattle.tables.proofs.updates.clear_from.Tie as tie
 
-abbrev Inv-loop : tie.InvT-loop
-Inv-loop t₀ k i₀ t i =
-    (k ≤ i) × (i ≤ 64) × (length t ≡ length t₀) × (filled 64 unused i (entries t) ≡ filled 64 unused k (entries t₀))
+mul-at : tie.Need-mul-at
+mul-at c = search needs
 
-abbrev μ-loop : tie.MeasureT-loop
-μ-loop t₀ k i₀ t i = 64 - i
+mul-clear : tie.Need-mul-clear
+mul-clear c = search needs
 
-loop-holds : tie.Need-loop-holds Inv-loop μ-loop
-loop-holds c = (omega arith, c .before .pre .within, refl, refl)
+sub-clear : tie.Need-sub-clear
+sub-clear c = search needs
 
-unused-requires : tie.Need-unused-requires Inv-loop μ-loop
-unused-requires c κs = tt
+part-clear-start : tie.Need-part-clear-start
+part-clear-start c = search needs
 
-put-entry-requires : tie.Need-put-entry-requires Inv-loop μ-loop
-put-entry-requires c κs =
-    let l = c .before .before .before .loop in
-    record { long = l .inv .2 ∙ c .before .before .before .before .before .pre .long; below = c .before .before .loop-test .taken }
+part-clear-end : tie.Need-part-clear-end
+part-clear-end c = search needs
 
-add-i : tie.Need-add-i Inv-loop μ-loop
-add-i c = omega arith
+clear-requires : tie.Need-clear-requires
+clear-requires c κs = search needs
 
-loop-less : tie.Need-loop-less Inv-loop μ-loop
-loop-less c = omega arith
+same-length : tie.Need-same-length
+same-length c = search needs
 
-loop-again : tie.Need-loop-again Inv-loop μ-loop
-loop-again c =
-    let l = c .before .before .before .before .before .before .loop in
-    let m = c .before .before .put-entry in
-    let w : 64 ≤ length (entries (l .t)) = rw entries-length (omega arith) in
-    let turn = filled-next 64 (l .i) (entries (l .t)) unused (c .before .before .before .before .before .loop-test .taken) w in
-    (omega arith, omega arith, m .kept .0 ∙ l .inv .2, rw (m .ensures, c .before .before .before .unused .ensures) (turn ∙ l .inv .3))
-
-same-length : tie.Need-same-length Inv-loop μ-loop
-same-length c = c .before .loop .inv .2
-
-returns : tie.Need-returns Inv-loop μ-loop
+returns : tie.Need-returns
 returns c =
-    let s = c .before .before .before in
-    let l = c .before .loop in
-    let ss = entries (s .args .t .now) in
-    let w : s .args .k ≤ length ss = rw entries-length (s .pre .within) in
-    let full = filled-end 64 (l .i) (entries (l .t)) unused (c .loop-test .left) (entries-length (l .t)) (l .inv .1) in
-    sym full ∙ l .inv .3 ∙ rw (length-take-le (s .args .k) ss w)
+    let s = c .before .before .before .before .before in
+    let rest = drop (7 * s .args .k) (s .args .t .now) in
+    let n = length (s .args .t .now) - 7 * s .args .k in
+    let none : drop n rest ≡ [] = drop-of-length-le rest {i = n} (simp length-drop (omega arith)) in
+    rw (c .before .before .clear .ensures, none, append-nil (replicate {A = ℕ} (length (take n rest)) 0))
+    (entries-cut (s .args .t .now) (s .args .k) (length (take n rest)) (s .pre .within) (s .pre .long))
 
 pub clear-from-spec : {M : Type 1} → statement M
 clear-from-spec =
     tie.close
     (tie.spec
-    Inv-loop
-    μ-loop
-    loop-holds
-    unused-requires
-    put-entry-requires
-    add-i
-    loop-less
-    loop-again
+    mul-at
+    mul-clear
+    sub-clear
+    part-clear-start
+    part-clear-end
+    clear-requires
     same-length
     returns)

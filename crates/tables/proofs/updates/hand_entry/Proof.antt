@@ -1,4 +1,6 @@
 -- `tables::updates::hand_entry` meets its contract. Assumes nothing.
+use mathlib.Core.Path.{sym}
+use lib.Seq.{set-getD}
 use borrow.Author.Needs.{needs}
 use Rattle.tables.proofs.updates.hand_entry.Statement.{statement}
 use Rattle.tables.proofs.updates.hand_entry.Tie as tie
@@ -6,8 +8,11 @@ use Rattle.tables.proofs.updates.hand_entry.Tie as tie
 entry-at-requires : tie.Need-entry-at-requires
 entry-at-requires c κs = search needs
 
-handed-on-requires : tie.Need-handed-on-requires
-handed-on-requires c κs = search needs
+is-held-requires : tie.Need-is-held-requires
+is-held-requires c κs = search needs
+
+passed-requires : tie.Need-passed-requires
+passed-requires c κs = search needs
 
 put-entry-requires : tie.Need-put-entry-requires
 put-entry-requires c κs = search needs
@@ -17,13 +22,32 @@ same-length c = search needs
 
 returns : tie.Need-returns
 returns c =
+    let h = c .before .before .before .before .before .before in
     rw (
       c .before .before .put-entry .ensures,
-      c .before .before .before .handed-on .ensures,
-      ← c .before .before .before .before .before .entry-at .ensures,
+      c .before .before .before .passed .ensures,
+      ← h .before .entry-at .ensures,
+      ← h .is-held .ensures,
+      c .before .before .before .before .before .if1 .taken,
     )
+
+same-length-2 : tie.Need-same-length-2
+same-length-2 c = search needs
+
+returns-2 : tie.Need-returns-2
+returns-2 c =
+    let e = c .before .before .entry-at .ensures in
+    rw (← e, ← c .before .is-held .ensures, c .if1 .left, e) (sym (set-getD _ _ _))
 
 pub hand-entry-spec : {M : Type 1} → statement M
 hand-entry-spec =
     tie.close
-    (tie.spec entry-at-requires handed-on-requires put-entry-requires same-length returns)
+    (tie.spec
+    entry-at-requires
+    is-held-requires
+    passed-requires
+    put-entry-requires
+    same-length
+    returns
+    same-length-2
+    returns-2)

@@ -1,5 +1,6 @@
 -- `tables::updates::move_entry` meets its contract. Assumes nothing.
 use native.Mathlib.Numerals.{add-one}
+use lib.Seq.{set-getD}
 use borrow.Author.Tests.{eq-eqb, ne-eqb}
 use borrow.Author.Needs.{needs}
 use Rattle.tables_model.specs.Table.{movedAt}
@@ -16,9 +17,6 @@ returns : tie.Need-returns
 unfolding movedAt
 returns c = rw (← c .before .before .before .entry-at .ensures, eq-eqb _ _ (c .if1 .taken))
 
-put-entry-requires : tie.Need-put-entry-requires
-put-entry-requires c κs = search needs
-
 add-result : tie.Need-add-result
 add-result c = search needs
 
@@ -28,9 +26,24 @@ same-length-2 c = search needs
 returns-2 : tie.Need-returns-2
 unfolding movedAt
 returns-2 c =
+    let e = c .before .before .before .before .entry-at .ensures in
+    rw (← e, ne-eqb _ _ (c .before .if1 .left), e, c .if2 .taken, set-getD, add-one)
+
+put-entry-requires : tie.Need-put-entry-requires
+put-entry-requires c κs = search needs
+
+add-result-2 : tie.Need-add-result-2
+add-result-2 c = search needs
+
+same-length-3 : tie.Need-same-length-3
+same-length-3 c = search needs
+
+returns-3 : tie.Need-returns-3
+unfolding movedAt
+returns-3 c =
     rw (
-      ← c .before .before .before .before .before .before .before .entry-at .ensures,
-      ne-eqb _ _ (c .before .before .before .before .if1 .left),
+      ← c .before .before .before .before .before .before .before .before .entry-at .ensures,
+      ne-eqb _ _ (c .before .before .before .before .before .if1 .left),
       c .before .before .put-entry .ensures,
       add-one,
     )
@@ -42,7 +55,10 @@ move-entry-spec =
     entry-at-requires
     same-length
     returns
-    put-entry-requires
     add-result
     same-length-2
-    returns-2)
+    returns-2
+    put-entry-requires
+    add-result-2
+    same-length-3
+    returns-3)

@@ -1,80 +1,46 @@
 -- `undo::look::before_last` meets its contract. Assumes nothing.
-use Prim.Native.Nat.{_-_, _≤_}
-use mathlib.Core.Path.{_≡_, refl, sym, _∙_}
-use native.Mathlib.Omega.{arith}
-use Rattle.tables_model.specs.Meaning.{previous}
-use Rattle.journal.specs.Journal.{journal}
-use Rattle.undo.specs.Looking.{lookUp}
-use Rattle.undo.proofs.LookUps.{no-row-zero, stops, finds, passes}
+use mathlib.Core.Path.{sym, _∙_}
 use borrow.Author.Needs.{needs}
+use borrow.Author.Tests.{eq-eqb, ne-eqb}
+use Rattle.journal.specs.Journal.{journal}
+use Rattle.undo.proofs.LookUps.{in-parts}
 use Rattle.undo.proofs.look.before_last.Statement.{statement}
 use Rattle.undo.proofs.look.before_last.Tie as tie
 
-abbrev Inv-loop : tie.InvT-loop
-Inv-loop c log tail maker cell first n₀ n =
-    let look = lookUp (journal c log tail) in
-    (n ≤ n₀) × (previous look (maker .0) (cell .0) first n₀ ≡ previous look (maker .0) (cell .0) first n)
-
-abbrev μ-loop : tie.MeasureT-loop
-μ-loop c log tail maker cell first n₀ n = n
-
-cast-first : tie.Need-cast-first Inv-loop μ-loop
+cast-first : tie.Need-cast-first
 cast-first c = search needs
 
-cast-n : tie.Need-cast-n Inv-loop μ-loop
-cast-n c = search needs
+cast-last : tie.Need-cast-last
+cast-last c = search needs
 
-loop-holds : tie.Need-loop-holds Inv-loop μ-loop
-loop-holds c = (omega arith, refl)
+change-before-requires : tie.Need-change-before-requires
+change-before-requires c κs = search needs
 
-sub-n : tie.Need-sub-n Inv-loop μ-loop
-sub-n c = omega arith
-
-returns : tie.Need-returns Inv-loop μ-loop
+returns : tie.Need-returns
 returns c =
-    let a = (c .before .before .before .before .before .before .before .before .before .args) in
-    let l = (c .before .before .loop) in
-    (sym (l .inv .1 ∙ stops (lookUp (journal (a .c) (a .log .now) (a .tail .now))) _ _ _ (l .n - 1) (l .n) (omega arith) (c .if1 .taken)), omega arith)
+    let a = c .before .before .before .before .before .before .before .before .args in
+    let r = c .before .change-before .ensures in
+    let found = ne-eqb _ 0 (c .if1 .taken) in
+    (sym (in-parts (journal (a .c) (a .log .now) (a .tail .now)) (a .s .maker .0) (a .s .cell .0) (a .s .first .0) (a .s .last .0) ∙ rw (← r .0, found)), r .1)
 
-changes-at-requires : tie.Need-changes-at-requires Inv-loop μ-loop
-changes-at-requires c κs = (c .before .before .before .before .before .before .before .before .before .pre)
+change-before-requires-2 : tie.Need-change-before-requires-2
+change-before-requires-2 c κs = search needs
 
-returns-2 : tie.Need-returns-2 Inv-loop μ-loop
+returns-2 : tie.Need-returns-2
 returns-2 c =
-    let a = (c .before .before .before .before .before .before .before .before .before .before .before .args) in
-    let l = (c .before .before .before .before .loop) in
-    let j = journal (a .c) (a .log .now) (a .tail .now) in
-    (sym (l .inv .1 ∙ finds (lookUp j) _ _ _ (l .n - 1) (l .n) (omega arith) (c .before .before .if1 .left) (rw (no-row-zero j 0 refl)) (sym (c .before .changes-at .ensures) ∙ (c .if2 .taken))), omega arith)
-
-loop-less : tie.Need-loop-less Inv-loop μ-loop
-loop-less c = omega arith
-
-loop-again : tie.Need-loop-again Inv-loop μ-loop
-loop-again c =
-    let a = (c .before .before .before .before .before .before .before .before .before .before .before .args) in
-    let l = (c .before .before .before .before .loop) in
-    let j = journal (a .c) (a .log .now) (a .tail .now) in
-    (omega arith, l .inv .1 ∙ passes (lookUp j) _ _ _ (l .n - 1) (l .n) (omega arith) (c .before .before .if1 .left) (sym (c .before .changes-at .ensures) ∙ (c .if2 .left)))
-
-returns-3 : tie.Need-returns-3 Inv-loop μ-loop
-returns-3 c =
-    let l = (c .before .loop) in
-    let e : l .n ≡ 0 = omega arith in
-    (sym (l .inv .1 ∙ rw e), omega arith)
+    let a = c .before .before .before .before .before .before .before .before .before .args in
+    let r = c .before .before .change-before .ensures in
+    let none = eq-eqb _ 0 (c .before .if1 .left) in
+    let q = c .change-before2 .ensures in
+    (sym (in-parts (journal (a .c) (a .log .now) (a .tail .now)) (a .s .maker .0) (a .s .cell .0) (a .s .first .0) (a .s .last .0) ∙ rw (← r .0, none, ← q .0)), q .1)
 
 pub before-last-spec : {M : Type 1} → statement M
 before-last-spec =
     tie.close
     (tie.spec
-    Inv-loop
-    μ-loop
     cast-first
-    cast-n
-    loop-holds
-    sub-n
+    cast-last
+    change-before-requires
     returns
-    changes-at-requires
-    returns-2
-    loop-less
-    loop-again
-    returns-3)
+    change-before-requires-2
+    returns-2)

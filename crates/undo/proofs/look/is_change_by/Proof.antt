@@ -1,47 +1,38 @@
 -- `undo::look::is_change_by` meets its contract. Assumes nothing.
-use borrow.Author.Tests.{eq-eqb, ne-eqb}
+use mathlib.Core.Path.{sym, _∙_}
 use borrow.Author.Needs.{needs}
-use Rattle.undo.proofs.LookUps.{change-bytes, other-bytes}
+use borrow.Author.Tests.{eq-eqb, ne-eqb}
+use Rattle.undo.proofs.LookUps.{change-by-bytes}
 use Rattle.undo.proofs.look.is_change_by.Statement.{statement}
 use Rattle.undo.proofs.look.is_change_by.Tie as tie
 
 shared-slice-read-if1 : tie.Need-shared-slice-read-if1
 shared-slice-read-if1 c = search needs
 
-shared-slice-read-wide : tie.Need-shared-slice-read-wide
-shared-slice-read-wide c = search needs
-
-wide-requires : tie.Need-wide-requires
-wide-requires c κs = search needs
+is-made-by-requires : tie.Need-is-made-by-requires
+is-made-by-requires c κs = search needs
 
 shared-slice-read-result : tie.Need-shared-slice-read-result
 shared-slice-read-result c = search needs
 
 returns : tie.Need-returns
 returns c =
-    let w = c .before .before .before .before in
-    let s = w .before .before .before .before .before in
-    rw (change-bytes (s .args .b .now) (s .args .maker .0) (s .args .cell .0) (w .before .before .if1 .taken), ← (w .wide .ensures), eq-eqb _ _ (c .before .before .if2 .taken))
+    let s = c .before .before .before .before .before .before .before .args in
+    let by = sym (c .before .before .is-made-by .ensures) ∙ c .before .if2 .taken in
+    sym (change-by-bytes (s .b .now) (s .maker .0) (s .cell .0) ∙ rw (eq-eqb _ _ (c .before .before .before .if1 .taken), by))
 
 returns-2 : tie.Need-returns-2
 returns-2 c =
-    let w = c .before .before in
-    let s = w .before .before .before .before .before in
-    rw (change-bytes (s .args .b .now) (s .args .maker .0) (s .args .cell .0) (w .before .before .if1 .taken), ← (w .wide .ensures), ne-eqb _ _ (c .if2 .left))
+    let s = c .before .before .before .before .before .before .args in
+    let by = sym (c .before .is-made-by .ensures) ∙ c .if2 .left in
+    sym (change-by-bytes (s .b .now) (s .maker .0) (s .cell .0) ∙ rw (eq-eqb _ _ (c .before .before .if1 .taken), by) (sym (c .if2 .left)))
 
 returns-3 : tie.Need-returns-3
 returns-3 c =
-    let s = c .before .before .before in
-    rw (other-bytes (s .args .b .now) (s .args .maker .0) (s .args .cell .0) (c .if1 .left))
+    let s = c .before .before .before .before .args in
+    sym (change-by-bytes (s .b .now) (s .maker .0) (s .cell .0) ∙ rw (ne-eqb _ _ (c .if1 .left)))
 
 pub is-change-by-spec : {M : Type 1} → statement M
 is-change-by-spec =
     tie.close
-    (tie.spec
-    shared-slice-read-if1
-    shared-slice-read-wide
-    wide-requires
-    shared-slice-read-result
-    returns
-    returns-2
-    returns-3)
+    (tie.spec shared-slice-read-if1 is-made-by-requires shared-slice-read-result returns returns-2 returns-3)
