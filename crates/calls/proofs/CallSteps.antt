@@ -7,7 +7,12 @@ use Rattle.book.specs.Rows.{Row}
 use Rattle.book.specs.Calls.{Call}
 use Rattle.book.specs.Pages.{pageAt}
 use Rattle.tables_model.specs.declared.Whom.the-variants.{One}
-use Rattle.tables_model.specs.Rows.{Index, stepBy}
+use Rattle.tables_model.specs.declared.Tables.{Tables}
+use Rattle.tables_model.specs.Visits.{withBegun}
+use Rattle.tables_model.specs.Table.{scopesHanded}
+use Rattle.tables_model.specs.Rows.{Index, afterChange, afterEnd}
+use Rattle.book.specs.Ledger.{only}
+use Rattle.book.specs.Scopes.{Scope}
 use Rattle.journal.specs.Journal.{Journal, forced, forcedUpTo, Paged, paged}
 use Rattle.undo.specs.Writing.{Ram, rowCount, written}
 use Rattle.undo.specs.TakeBack.{Taking, fallAll}
@@ -20,37 +25,36 @@ indexIn x = record { tables = x .tables; scopes = x .scopes }
 abbrev pub assembled : Ram → List ℕ → Index → Core
 assembled m charts i = record { ram = m; charts = charts; tables = i .tables; scopes = i .scopes }
 
--- a row, and the tables after it
-abbrev pub withRow : Core → Row → Core
-withRow x r = assembled (written (x .ram) r) (x .charts) (stepBy (indexIn x) (suc (rowCount (x .ram .journal))) 0 r)
-
 module _ (x : Core) where
-  pub row-added : (r : Row) (m : Ram) (i : Index) → m ≡ written (x .ram) r → i ≡ stepBy (indexIn x) (suc (rowCount (x .ram .journal))) 0 r
-      → assembled m (x .charts) i ≡ withRow x r
-  row-added r m i p q = rw (p, q)
+  abbrev next : ℕ
+  next = suc (rowCount (x .ram .journal))
 
-  pub begins : withRow x (Row.begin (suc (x .tables .begun))) ≡ acted x Call.begin
-  unfolding acted stepBy
-  begins = refl
+  pub begins : (m : Ram) (t : Tables) → let v = suc (x .tables .begun) in m ≡ written (x .ram) (Row.begin v) → t ≡ withBegun (x .tables) v
+      → record { ram = m; charts = x .charts; tables = t; scopes = x .scopes } ≡ acted x Call.begin
+  unfolding acted
+  begins m t p q = rw (p, q)
 
-  pub changes : (v c : ℕ) (a : ℤ) → withRow x (Row.change v c a) ≡ acted x (Call.change v c a)
-  unfolding acted stepBy
-  changes v c a = refl
+  pub changes : (v c : ℕ) (a : ℤ) (m : Ram) (i : Index) → m ≡ written (x .ram) (Row.change v c a) → i ≡ afterChange (indexIn x) next v c
+      → assembled m (x .charts) i ≡ acted x (Call.change v c a)
+  unfolding acted
+  changes v c a m i p q = rw (p, q)
 
-  pub hands-over : (g r c : ℕ) → withRow x (Row.handOver g r c) ≡ acted x (Call.handOver g r c)
-  unfolding acted stepBy
-  hands-over g r c = refl
+  pub hands-over : (g r c : ℕ) (m : Ram) (ss : List Scope) → m ≡ written (x .ram) (Row.handOver g r c) → ss ≡ scopesHanded (x .tables .used) g r (only c) (x .scopes)
+      → record { ram = m; charts = x .charts; tables = x .tables; scopes = ss } ≡ acted x (Call.handOver g r c)
+  unfolding acted
+  hands-over g r c m ss p q = rw (p, q)
 
-  pub commits : (v : ℕ) (m : Ram) (i : Index) (j : Journal) → m ≡ written (x .ram) (Row.commit v)
-      → i ≡ stepBy (indexIn x) (suc (rowCount (x .ram .journal))) 0 (Row.commit v) → j ≡ forced (m .journal)
+  pub commits : (v : ℕ) (m : Ram) (i : Index) (j : Journal) → i ≡ afterEnd (indexIn x) v → m ≡ written (x .ram) (Row.commit v) → j ≡ forced (m .journal)
       → assembled (record { journal = j; copy = m .copy }) (x .charts) i ≡ acted x (Call.commit v)
-  unfolding acted stepBy
-  commits v m i j p q e = rw (e, p, q)
+  unfolding acted
+  commits v m i j q p e = rw (e, p, q)
 
-  pub aborts : (v : ℕ) (t : Taking) → t ≡ fallAll (rowCount (x .ram .journal)) (One (record { 0 = v })) (x .tables .used) (record { ram = x .ram; scopes = x .scopes })
-      → withRow (record { ram = t .ram; charts = x .charts; tables = x .tables; scopes = t .scopes }) (Row.abort v) ≡ acted x (Call.abort v)
-  unfolding acted stepBy
-  aborts v t e = rw e
+  pub aborts : (v : ℕ) (t : Taking) (m : Ram) (i : Index)
+      → t ≡ fallAll (rowCount (x .ram .journal)) (One (record { 0 = v })) (x .tables .used) (record { ram = x .ram; scopes = x .scopes })
+      → i ≡ afterEnd (record { tables = x .tables; scopes = t .scopes }) v → m ≡ written (t .ram) (Row.abort v)
+      → assembled m (x .charts) i ≡ acted x (Call.abort v)
+  unfolding acted
+  aborts v t m i e q p = rw (p, q, e)
 
   pub flushes : (p m : ℕ) (j : Journal) (g : Paged) → m ≡ flushCount x p → j ≡ forcedUpTo m (x .ram .journal)
       → g ≡ paged (j .control) (x .charts) p (pageAt (x .ram .copy) p)

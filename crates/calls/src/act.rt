@@ -1,15 +1,13 @@
 // What an accepted call does: the rows that it adds, the tables after them, and its stored writes.
 ghost use mathlib.Core.Path.{_≡_};
-ghost use Prim.Native.Nat.{ℕ, suc, _+_, _-_, _≤_, _<_};
+ghost use Prim.Native.Nat.{ℕ, _-_, _≤_, _<_};
 ghost use mathlib.Core.Bool.{cond};
 ghost use mathlib.Core.List.{List};
 ghost use lib.Dec.{leb};
 ghost use lib.ListN.{length};
 ghost use Rattle.book.specs.Calls.{Call};
-ghost use Rattle.rows.specs.Meaning.{meant};
 ghost use Rattle.tables_model.specs.declared.Counts.{Counts as TheCounts};
-ghost use Rattle.tables_model.specs.Rows.{Steps, index, stepBy};
-ghost use Rattle.undo.specs.Writing.{ram, Fits, written};
+ghost use Rattle.undo.specs.Writing.{Fits};
 ghost use Rattle.calls_model.specs.Acts.{core, acted, Accepts};
 use charts::charts::read_mark;
 use journal::Control;
@@ -20,7 +18,10 @@ use rows::Cell;
 use rows::Lsn;
 use rows::Row;
 use rows::Visit;
-use tables::steps::step;
+use tables::steps::after_change;
+use tables::steps::after_end;
+use tables::visits::with_begun;
+use tables_model::CellSet;
 use tables_model::Counts;
 use tables_model::Whom;
 use undo::take_back::take_back;
@@ -30,31 +31,6 @@ use undo::write::write;
 pub struct Acted {
     pub control: Control,
     pub counts: Counts,
-}
-
-// A row is written, and the tables follow it.
-fn add(
-    c: Control,
-    t: Counts,
-    visits: &mut [u16],
-    log: &mut [u8],
-    copy: &mut [u8],
-    tail: &mut [u8],
-    scopes: &mut [u16],
-    row: Row,
-) -> Acted
-    requires { ⌜ Fits c (length (now log)) (length (now tail)) (length (now copy)) × Steps t (now visits) (now scopes) (meant row) ⌝ }
-    ensures { λ r. ⌜ (ram (r .control) (now (log .exit)) (now (tail .exit)) (now (copy .exit))
-        ≡ written (ram c (now (log .entry)) (now (tail .entry)) (now (copy .entry))) (meant row))
-        × (index (r .counts) (now (visits .exit)) (now (scopes .exit)) ≡ stepBy (index t (now (visits .entry)) (now (scopes .entry))) (suc (c .stored + c .waiting)) 0 (meant row)) ⌝ }
-{
-    let n = Lsn((c.stored + c.waiting + 1) as u16);
-    let s = step(t, visits, scopes, n, row, Lsn(0));
-    let d = write(c, log, tail, copy, row);
-    Acted {
-        control: d,
-        counts: s,
-    }
 }
 
 pub(crate) fn begin(
@@ -71,7 +47,12 @@ pub(crate) fn begin(
         ≡ acted (core c t (now (visits .entry)) (now (log .entry)) charts (now (copy .entry)) (now (tail .entry)) (now (scopes .entry))) Call.begin) ⌝ }
 {
     let v = Visit(t.begun + 1);
-    add(c, t, visits, log, copy, tail, scopes, Row::Begin(v))
+    let counts = with_begun(t, visits, v);
+    let control = write(c, log, tail, copy, Row::Begin(v));
+    Acted {
+        control: control,
+        counts: counts,
+    }
 }
 
 pub(crate) fn change(
@@ -90,7 +71,13 @@ pub(crate) fn change(
     ensures { λ r. ⌜ ((charts : List ℕ) → core (r .control) (r .counts) (now (visits .exit)) (now (log .exit)) charts (now (copy .exit)) (now (tail .exit)) (now (scopes .exit))
         ≡ acted (core c t (now (visits .entry)) (now (log .entry)) charts (now (copy .entry)) (now (tail .entry)) (now (scopes .entry))) (Call.change (v .0) (k .0) a)) ⌝ }
 {
-    add(c, t, visits, log, copy, tail, scopes, Row::Change(v, k, a))
+    let n = Lsn((c.stored + c.waiting + 1) as u16);
+    let counts = after_change(t, scopes, n, v, k);
+    let control = write(c, log, tail, copy, Row::Change(v, k, a));
+    Acted {
+        control: control,
+        counts: counts,
+    }
 }
 
 pub(crate) fn hand_over(
@@ -109,16 +96,12 @@ pub(crate) fn hand_over(
     ensures { λ x. ⌜ ((charts : List ℕ) → core (x .control) (x .counts) (now (visits .exit)) (now (log .exit)) charts (now (copy .exit)) (now (tail .exit)) (now (scopes .exit))
         ≡ acted (core c t (now (visits .entry)) (now (log .entry)) charts (now (copy .entry)) (now (tail .entry)) (now (scopes .entry))) (Call.handOver (g .0) (r .0) (k .0))) ⌝ }
 {
-    add(
-        c,
-        t,
-        visits,
-        log,
-        copy,
-        tail,
-        scopes,
-        Row::HandOver(g, r, k),
-    )
+    tables::updates::hand_over(scopes, t.used, g, r, CellSet::Only(k));
+    let control = write(c, log, tail, copy, Row::HandOver(g, r, k));
+    Acted {
+        control: control,
+        counts: t,
+    }
 }
 
 // A commit is forced.
@@ -136,13 +119,12 @@ pub(crate) fn commit(
     ensures { λ r. ⌜ ((charts : List ℕ) → core (r .control) (r .counts) (now (visits .exit)) (now (log .exit)) charts (now (copy .exit)) (now (tail .exit)) (now (scopes .exit))
         ≡ acted (core c t (now (visits .entry)) (now (log .entry)) charts (now (copy .entry)) (now (tail .entry)) (now (scopes .entry))) (Call.commit (v .0))) ⌝ }
 {
-    let added = add(c, t, visits, log, copy, tail, scopes, Row::Commit(v));
-    let with_row = added.control;
-    let d = force(with_row, log, tail);
-    let s = added.counts;
+    let counts = after_end(t, visits, scopes, v);
+    let with_row = write(c, log, tail, copy, Row::Commit(v));
+    let control = force(with_row, log, tail);
     Acted {
-        control: d,
-        counts: s,
+        control: control,
+        counts: counts,
     }
 }
 
@@ -162,7 +144,12 @@ pub(crate) fn abort(
         ≡ acted (core c t (now (visits .entry)) (now (log .entry)) charts (now (copy .entry)) (now (tail .entry)) (now (scopes .entry))) (Call.abort (v .0))) ⌝ }
 {
     let d = take_back(c, log, tail, copy, scopes, t.used, Whom::One(v));
-    add(d, t, visits, log, copy, tail, scopes, Row::Abort(v))
+    let counts = after_end(t, visits, scopes, v);
+    let control = write(d, log, tail, copy, Row::Abort(v));
+    Acted {
+        control: control,
+        counts: counts,
+    }
 }
 
 // The waiting rows up to a page's mark, if that one waits; a mark beyond the rows counts as none.

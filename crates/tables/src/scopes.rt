@@ -3,7 +3,7 @@ ghost use mathlib.Core.Path.{_≡_};
 ghost use Prim.Native.Nat.{_-_};
 ghost use Rattle.book.specs.Scopes.{unused as unusedScope};
 ghost use Rattle.tables_model.specs.Entries.{scopeIn};
-ghost use Rattle.tables_model.specs.Table.{grows, among, isHeld, covers as coversBy, grown as grownScope};
+ghost use Rattle.tables_model.specs.Table.{among, isHeld, covers as coversBy, grown as grownScope};
 ghost use Rattle.tables_model.specs.Table.{started as startedScope, passed as passedScope, lowered as loweredScope};
 use rows::Cell;
 use rows::Lsn;
@@ -11,17 +11,6 @@ use rows::Visit;
 use tables_model::CellSet;
 use tables_model::Scope;
 use tables_model::Whom;
-
-// The maker changed the cell in this scope, and has not handed it over since.
-pub fn may_grow(e: Scope, v: Visit, c: Cell) -> bool
-    ensures { λ r. ⌜ r ≡ grows (v .0) (c .0) (scopeIn e) ⌝ }
-{
-    if e.maker.0 == v.0 {
-        e.cell.0 == c.0 && !e.handed
-    } else {
-        false
-    }
-}
 
 // The hand-over is about the cell.
 pub fn is_among(cs: CellSet, cell: Cell) -> bool

@@ -23,7 +23,7 @@ use tables_model::Found;
 use tables_model::Whom;
 
 // A change in row n.
-fn after_change(t: Counts, scopes: &mut [u16], n: Lsn, v: Visit, c: Cell) -> Counts
+pub fn after_change(t: Counts, scopes: &mut [u16], n: Lsn, v: Visit, c: Cell) -> Counts
     requires { ⌜ Changes t (now scopes) (v .0) (c .0) ⌝ }
     ensures { λ r. ⌜ ((vs : List ℕ) → index r vs (now (scopes .exit)) ≡ afterChange (index t vs (now (scopes .entry))) (n .0) (v .0) (c .0)) ⌝ }
 {
@@ -51,7 +51,7 @@ fn after_undo(t: Counts, visits: &mut [u16], scopes: &mut [u16], h: Visit, befor
 }
 
 // A commit or an abort.
-fn after_end(t: Counts, visits: &mut [u16], scopes: &mut [u16], v: Visit) -> Counts
+pub fn after_end(t: Counts, visits: &mut [u16], scopes: &mut [u16], v: Visit) -> Counts
     requires { ⌜ Ready t (length (now visits)) (length (now scopes)) ⌝ }
     ensures { λ r. ⌜ index r (now (visits .exit)) (now (scopes .exit)) ≡ afterEnd (index t (now (visits .entry)) (now (scopes .entry))) (v .0) ⌝ }
 {

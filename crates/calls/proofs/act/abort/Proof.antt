@@ -1,11 +1,10 @@
 -- `calls::act::abort` meets its contract. Assumes nothing.
 use Prim.Native.Nat.{_+_}
-use mathlib.Core.Path.{_∙_}
 use Rattle.tables_model.specs.declared.Whom.the-variants.{One}
 use Rattle.undo.specs.TakeBack.{taking}
 use Rattle.undo.proofs.Counters.{counters, fits-again, counters-fallAll}
 use Rattle.calls_model.specs.Acts.{core}
-use Rattle.calls.proofs.CallSteps.{row-added, aborts}
+use Rattle.calls.proofs.CallSteps.{aborts}
 use borrow.Author.Needs.{needs}
 use Rattle.calls.proofs.act.abort.Statement.{statement}
 use Rattle.calls.proofs.act.abort.Tie as tie
@@ -13,15 +12,16 @@ use Rattle.calls.proofs.act.abort.Tie as tie
 take-back-requires : tie.Need-take-back-requires
 take-back-requires c κs = search needs
 
-add-requires : tie.Need-add-requires
-add-requires c κs =
-    let s = c .before .before .before .before .before .before .before .before .before .before .before .before .before .before .before .before .before .before .before .before .before .before .before in
+after-end-requires : tie.Need-after-end-requires
+after-end-requires c κs = search needs
+
+write-requires : tie.Need-write-requires
+write-requires c κs =
+    let s = c .before .before .before .before .before .before .before .before .before .before .before .before .before .before .before .before .before .before .before .before .before .before .before .before .before .before .before .before in
     let a = s .args in
-    let f = c .before .before .before .before .before .before .before .before .before .before .before .before .before .take-back in
-    let n = rw (← f .ensures) at (counters-fallAll (a .c .stored + a .c .waiting) (One (a .v)) (a .t .used) (taking (a .c) (a .log .now) (a .tail .now) (a .copy .now) (a .scopes .now)) (counters (s .pre .fits))) in (
-      fits-again (s .pre .fits) n (f .kept .1 .0) (f .kept .1 .1 .0) (f .kept .1 .1 .1 .0),
-      record { ready = record { range = s .pre .ready .range; visits-long = s .pre .ready .visits-long; long = f .kept .1 .1 .1 .1 .0 ∙ s .pre .ready .long }; takes = tt },
-    )
+    let f = c .before .before .before .before .before .before .before .before .before .before .before .before .before .before .before .before .before .before .take-back in
+    let n = rw (← f .ensures) at (counters-fallAll (a .c .stored + a .c .waiting) (One (a .v)) (a .t .used) (taking (a .c) (a .log .now) (a .tail .now) (a .copy .now) (a .scopes .now)) (counters (s .pre .fits))) in
+    fits-again (s .pre .fits) n (f .kept .1 .0) (f .kept .1 .1 .0) (f .kept .1 .1 .1 .0)
 
 same-length : tie.Need-same-length
 same-length c = search needs
@@ -39,20 +39,19 @@ same-length-5 : tie.Need-same-length-5
 same-length-5 c = search needs
 
 returns : tie.Need-returns
-returns c =
-    let a = c .before .before .before .before .before .before .before .before .before .before .before .before .before .before .before .before .before .before .before .before .before .before .before .before .before .before .before .before .before .before .before .before .before .before .args in
-    let e = c .before .before .before .before .before .before .before .before .before .before .add .ensures in
-    let b = c .before .before .before .before .before .before .before .before .before .before .before .before .before .before .before .before .before .before .before .before .before .before .before .before .take-back in
-    λ charts. let x = core (a .c) (a .t) (a .visits .now) (a .log .now) charts (a .copy .now) (a .tail .now) (a .scopes .now) in
-    let y = core (b .result) (a .t) (a .visits .now) (b .last .1 .0) charts (b .last .1 .1 .1 .0) (b .last .1 .1 .0) (b .last .1 .1 .1 .1 .0) in
-    row-added y _ _ _ (e .0) (e .1) ∙ aborts x (a .v .0) (taking (b .result) (b .last .1 .0) (b .last .1 .1 .0) (b .last .1 .1 .1 .0) (b .last .1 .1 .1 .1 .0)) (b .ensures)
+returns c charts =
+    let a = c .before .before .before .before .before .before .before .before .before .before .before .before .before .before .before .before .before .before .before .before .before .before .before .before .before .before .before .before .before .before .before .before .before .before .before .args in
+    let b = c .before .before .before .before .before .before .before .before .before .before .before .before .before .before .before .before .before .before .before .before .before .before .before .before .before .take-back in
+    let x = core (a .c) (a .t) (a .visits .now) (a .log .now) charts (a .copy .now) (a .tail .now) (a .scopes .now) in
+    aborts x (a .v .0) (taking (b .result) (b .last .1 .0) (b .last .1 .1 .0) (b .last .1 .1 .1 .0) (b .last .1 .1 .1 .1 .0)) _ _ (b .ensures) (c .before .before .before .before .before .before .before .before .before .before .before .before .before .before .after-end .ensures) (c .before .before .before .before .before .before .write .ensures)
 
 pub abort-spec : {M : Type 1} → statement M
 abort-spec =
     tie.close
     (tie.spec
     take-back-requires
-    add-requires
+    after-end-requires
+    write-requires
     same-length
     same-length-2
     same-length-3

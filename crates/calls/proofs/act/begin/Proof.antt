@@ -1,26 +1,28 @@
 -- `calls::act::begin` meets its contract. Assumes nothing.
 use native.Mathlib.Omega.{arith}
 use native.Mathlib.Numerals.{add-one}
-use mathlib.Core.Path.{_∙_}
 use Rattle.tables_model.specs.Rows.{index}
 use Rattle.calls_model.specs.Acts.{core}
 use Rattle.calls.proofs.NoRefusal.{free-begin}
-use Rattle.calls.proofs.CallSteps.{row-added, begins}
+use Rattle.calls.proofs.CallSteps.{begins}
 use borrow.Author.Needs.{needs}
 use Rattle.calls.proofs.act.begin.Statement.{statement}
 use Rattle.calls.proofs.act.begin.Tie as tie
 
-add-t9 : tie.Need-add-t9
-add-t9 c =
+add-t11 : tie.Need-add-t11
+add-t11 c =
     let s = c .before .before .before .before .before .before in
     let free = free-begin (index (s .args .t) (s .args .visits .now) (s .args .scopes .now)) _ (s .pre .free) in
     omega (arith, free .0)
 
-add-requires : tie.Need-add-requires
-add-requires c κs =
-    let s = c .before .before .before .before .before .before .before .before .before .before .before in
+with-begun-requires : tie.Need-with-begun-requires
+with-begun-requires c κs =
+    let s = c .before .before .before .before .before .before .before in
     let free = free-begin (index (s .args .t) (s .args .visits .now) (s .args .scopes .now)) _ (s .pre .free) in
-    (s .pre .fits, record { ready = s .pre .ready; takes = record { room = free .1; next = add-one (s .args .t .begun) } })
+    record { long = s .pre .ready .visits-long; begins = record { room = free .1; next = add-one (s .args .t .begun) } }
+
+write-requires : tie.Need-write-requires
+write-requires c κs = search needs
 
 same-length : tie.Need-same-length
 same-length c = search needs
@@ -34,16 +36,21 @@ same-length-3 c = search needs
 same-length-4 : tie.Need-same-length-4
 same-length-4 c = search needs
 
-same-length-5 : tie.Need-same-length-5
-same-length-5 c = search needs
-
 returns : tie.Need-returns
-returns c =
-    let a = c .before .before .before .before .before .before .before .before .before .before .before .before .before .before .before .before .before .before .before .before .before .before .args in
-    let e = rw (add-one (a .t .begun)) at (c .before .before .before .before .before .before .before .before .before .before .add .ensures) in
-    λ charts. let x = core (a .c) (a .t) (a .visits .now) (a .log .now) charts (a .copy .now) (a .tail .now) (a .scopes .now) in row-added x _ _ _ (e .0) (e .1) ∙ begins x
+returns c charts =
+    let a = c .before .before .before .before .before .before .before .before .before .before .before .before .before .before .before .before .before .before .before .before .args in
+    let x = core (a .c) (a .t) (a .visits .now) (a .log .now) charts (a .copy .now) (a .tail .now) (a .scopes .now) in
+    begins x _ _ (rw (add-one (a .t .begun)) at (c .before .before .before .before .before .before .write .ensures)) (rw (add-one (a .t .begun)) at (c .before .before .before .before .before .before .before .before .before .before .before .before .with-begun .ensures))
 
 pub begin-spec : {M : Type 1} → statement M
 begin-spec =
     tie.close
-    (tie.spec add-t9 add-requires same-length same-length-2 same-length-3 same-length-4 same-length-5 returns)
+    (tie.spec
+    add-t11
+    with-begun-requires
+    write-requires
+    same-length
+    same-length-2
+    same-length-3
+    same-length-4
+    returns)

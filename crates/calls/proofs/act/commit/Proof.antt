@@ -8,16 +8,19 @@ use borrow.Author.Needs.{needs}
 use Rattle.calls.proofs.act.commit.Statement.{statement}
 use Rattle.calls.proofs.act.commit.Tie as tie
 
-add-requires : tie.Need-add-requires
-add-requires c κs = search needs
+after-end-requires : tie.Need-after-end-requires
+after-end-requires c κs = search needs
+
+write-requires : tie.Need-write-requires
+write-requires c κs = search needs
 
 force-requires : tie.Need-force-requires
 force-requires c κs =
     let s = c .before .before .before .before .before .before .before .before .before .before .before .before .before .before .before .before .before .before .before .before .before .before .before .before in
     let a = s .args in
-    let f = c .before .before .before .before .before .before .before .before .before .before .before .before .before .add in
-    let n = rw (← f .ensures .0) at (counters-written (ram (a .c) (a .log .now) (a .tail .now) (a .copy .now)) (Row.commit (a .v .0)) (counters (s .pre .fits))) in
-    fits-again (s .pre .fits) n (f .kept .1 .1 .1 .0) (f .kept .1 .1 .1 .1 .1 .0) (f .kept .1 .1 .1 .1 .0) .sizes
+    let f = c .before .before .before .before .before .before .before .before .write in
+    let n = rw (← f .ensures) at (counters-written (ram (a .c) (a .log .now) (a .tail .now) (a .copy .now)) (Row.commit (a .v .0)) (counters (s .pre .fits))) in
+    fits-again (s .pre .fits) n (f .kept .1 .0) (f .kept .1 .1 .0) (f .kept .1 .1 .1 .0) .sizes
 
 same-length : tie.Need-same-length
 same-length c = search needs
@@ -35,16 +38,17 @@ same-length-5 : tie.Need-same-length-5
 same-length-5 c = search needs
 
 returns : tie.Need-returns
-returns c =
-    let a = c .before .before .before .before .before .before .before .before .before .before .before .before .before .before .before .before .before .before .before .before .before .before .before .before .before .before .before .before .before .before .args in
-    let e = c .before .before .before .before .before .before .before .before .before .before .before .before .before .before .before .before .before .before .before .add .ensures in
-    λ charts. commits (core (a .c) (a .t) (a .visits .now) (a .log .now) charts (a .copy .now) (a .tail .now) (a .scopes .now)) _ _ _ _ (e .0) (e .1) (c .before .before .before .before .before .force .ensures)
+returns c charts =
+    let a = c .before .before .before .before .before .before .before .before .before .before .before .before .before .before .before .before .before .before .before .before .before .before .before .before .before .before .before .before .before .args in
+    let x = core (a .c) (a .t) (a .visits .now) (a .log .now) charts (a .copy .now) (a .tail .now) (a .scopes .now) in
+    commits x _ _ _ _ (c .before .before .before .before .before .before .before .before .before .before .before .before .before .before .before .before .before .before .before .before .before .after-end .ensures) (c .before .before .before .before .before .before .before .before .before .before .before .before .before .write .ensures) (c .before .before .before .before .force .ensures)
 
 pub commit-spec : {M : Type 1} → statement M
 commit-spec =
     tie.close
     (tie.spec
-    add-requires
+    after-end-requires
+    write-requires
     force-requires
     same-length
     same-length-2

@@ -24,29 +24,26 @@ abbrev μ-loop : tie.MeasureT-loop
 loop-holds : tie.Need-loop-holds Inv-loop μ-loop
 loop-holds c = (omega arith, refl)
 
-entry-at-requires : tie.Need-entry-at-requires Inv-loop μ-loop
-entry-at-requires c κs = record { long = c .before .before .before .pre .long; below = omega (arith, c .before .before .before .pre .within) }
-
-may-grow-requires : tie.Need-may-grow-requires Inv-loop μ-loop
-may-grow-requires c κs = tt
+grows-at-requires : tie.Need-grows-at-requires Inv-loop μ-loop
+grows-at-requires c κs = record { long = c .before .before .before .pre .long; below = omega (arith, c .before .before .before .pre .within) }
 
 -- a turn: the entry's test, and what is left after it
-turn : (c : tie.After-may-grow Inv-loop μ-loop) →
-    let s = c .before .before .before .before .before in
-    let l = c .before .before .before .loop in
+turn : (c : tie.After-grows-at Inv-loop μ-loop) →
+    let s = c .before .before .before .before in
+    let l = c .before .before .loop in
     let p = grows (s .args .v .0) (s .args .c .0) in
     let ss = entries (s .args .t .now) in
-    findFrom p (l .i) (left (s .args .used) (l .i) ss) ≡ cond (c .may-grow .result) (At (l .i)) (findFrom p (l .i + 1) (left (s .args .used) (l .i + 1) ss))
+    findFrom p (l .i) (left (s .args .used) (l .i) ss) ≡ cond (c .grows-at .result) (At (l .i)) (findFrom p (l .i + 1) (left (s .args .used) (l .i + 1) ss))
 turn c =
-    let s = c .before .before .before .before .before in
-    let l = c .before .before .before .loop in
+    let s = c .before .before .before .before in
+    let l = c .before .before .loop in
     let p = grows (s .args .v .0) (s .args .c .0) in
-    let e : p (getD (entries (s .args .t .now)) (l .i) unused) ≡ c .may-grow .result = rw (← c .before .entry-at .ensures) (sym (c .may-grow .ensures)) in
-    find-next (s .args .t .now) (s .args .used) (l .i) (c .before .before .loop-test .taken) (s .pre .within) p (c .may-grow .result) e
+    let e : p (getD (entries (s .args .t .now)) (l .i) unused) ≡ c .grows-at .result = sym (c .grows-at .ensures) in
+    find-next (s .args .t .now) (s .args .used) (l .i) (c .before .loop-test .taken) (s .pre .within) p (c .grows-at .result) e
 
 returns : tie.Need-returns Inv-loop μ-loop
 unfolding find
-returns c = sym (c .before .before .before .before .loop .inv .1 ∙ turn (c .before) ∙ rw (c .if1 .taken))
+returns c = sym (c .before .before .before .loop .inv .1 ∙ turn (c .before) ∙ rw (c .if1 .taken))
 
 add-i : tie.Need-add-i Inv-loop μ-loop
 add-i c = omega arith
@@ -55,7 +52,7 @@ loop-less : tie.Need-loop-less Inv-loop μ-loop
 loop-less c = omega arith
 
 loop-again : tie.Need-loop-again Inv-loop μ-loop
-loop-again c = (omega arith, c .before .before .before .before .loop .inv .1 ∙ turn (c .before) ∙ rw (c .if1 .left))
+loop-again c = (omega arith, c .before .before .before .loop .inv .1 ∙ turn (c .before) ∙ rw (c .if1 .left))
 
 returns-2 : tie.Need-returns-2 Inv-loop μ-loop
 unfolding find
@@ -69,8 +66,7 @@ find-growing-spec =
     Inv-loop
     μ-loop
     loop-holds
-    entry-at-requires
-    may-grow-requires
+    grows-at-requires
     returns
     add-i
     loop-less
