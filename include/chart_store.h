@@ -16,8 +16,9 @@
  *   - Two calls on the same store do not run at the same time, not even in an interrupt.
  *   - Between two calls it leaves RAM, log and charts alone. If it does not, each call still ends with an answer, but the charts may be wrong.
  *
- * Nothing else is asked: a log or charts of another length are refused (CHART_WRONG_LENGTH), and no argument and no contents of RAM, log and charts can make
- * a call trap, run on or write elsewhere. A refused call changes no byte, but as CHART_CLOSED, CHART_BAD_ROW and CHART_BAD_PAGE say.
+ * Nothing else is asked: a log, charts or cells of another length are refused (CHART_WRONG_LENGTH), and no argument and no contents of RAM, log and charts
+ * can make a call trap, run on or write elsewhere. A refused call changes no byte, but for the calls in which the power fails (CHART_CLOSED) and the openings
+ * that reject the store (CHART_BAD_ROW, CHART_BAD_PAGE): they leave every byte of RAM 0.
  *
  * A call writes one row (16 bytes) or one page (32 bytes) of the stored memory at a time, in the order that write-ahead logging needs. If the power fails
  * at any point between two of these writes, chart_open brings the store back: every committed change is in the charts, every other one is undone. That a row

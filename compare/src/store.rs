@@ -104,7 +104,7 @@ pub trait Store {
     /// All entries of the scope table, unused ones too, in any order.
     fn scopes(&self) -> Vec<Scope>;
     /// All that the store keeps in RAM, byte by byte, where the host lends it as bytes and numbers: a
-    /// refusal changes none of them, and a failure of power leaves zeros. None for a store that keeps its
+    /// refusal changes none of them, and a failure of power leaves zeros. Empty for a store that keeps its
     /// state in a value of its own.
     fn ram(&self) -> Vec<u8> {
         Vec::new()

@@ -64,7 +64,7 @@ fn settle(
     }
 }
 
-// The answer of a call that returns its row's number: there are so many rows.
+// The answer of a call that returns its row's number: that of the last row.
 fn row_answer(c: Control) -> Answer
     requires { ⌜ c .stored + c .waiting ≤ 4096 ⌝ }
     ensures { λ r. ⌜ (numberAndValue r ≡ done (pos (c .stored + c .waiting))) × (caseOf r ≡ row) ⌝ }
@@ -81,8 +81,8 @@ pub fn accept_begin(
     tail: &mut [u8],
     scopes: &mut [u16],
 ) -> Outcome
-    requires { ⌜ Accepts c t (length (now log)) (length (now copy)) (length (now tail)) (now visits) (now scopes) (Call.begin) ⌝ }
-    ensures { λ r. ⌜ ((charts : List ℕ) → Accepted (core c t (now (visits .entry)) (now (log .entry)) charts (now (copy .entry)) (now (tail .entry)) (now (scopes .entry))) (Call.begin) r
+    requires { ⌜ Accepts c t (length (now log)) (length (now copy)) (length (now tail)) (now visits) (now scopes) Call.begin ⌝ }
+    ensures { λ r. ⌜ ((charts : List ℕ) → Accepted (core c t (now (visits .entry)) (now (log .entry)) charts (now (copy .entry)) (now (tail .entry)) (now (scopes .entry))) Call.begin r
         (now (log .exit)) charts (now (copy .exit)) (now (tail .exit)) (now (visits .exit)) (now (scopes .exit))) ⌝ }
 {
     let v = Visit(t.begun + 1);
@@ -183,8 +183,8 @@ pub fn accept_force(
     tail: &mut [u8],
     scopes: &mut [u16],
 ) -> Outcome
-    requires { ⌜ Accepts c t (length (now log)) (length (now copy)) (length (now tail)) (now visits) (now scopes) (Call.force) ⌝ }
-    ensures { λ r. ⌜ ((charts : List ℕ) → Accepted (core c t (now (visits .entry)) (now (log .entry)) charts (now (copy .entry)) (now (tail .entry)) (now (scopes .entry))) (Call.force) r
+    requires { ⌜ Accepts c t (length (now log)) (length (now copy)) (length (now tail)) (now visits) (now scopes) Call.force ⌝ }
+    ensures { λ r. ⌜ ((charts : List ℕ) → Accepted (core c t (now (visits .entry)) (now (log .entry)) charts (now (copy .entry)) (now (tail .entry)) (now (scopes .entry))) Call.force r
         (now (log .exit)) charts (now (copy .exit)) (now (tail .exit)) (now (visits .exit)) (now (scopes .exit))) ⌝ }
 {
     let d = force(c, log, tail);

@@ -60,7 +60,7 @@ worldIn x = record {
   scopes = map scopeOf (x .scopes);
 }
 
--- 01, "Power": an accepted call that closed the journal answers 5, and RAM is cleared here and nowhere else
+-- 01, "Power": an accepted call that closed the journal answers 5, and RAM is cleared
 unfoldable pub settled : Core → ℤ → Answered
 settled x v = cond (isRunning (x .ram .journal)) (answered 0 v (worldIn x)) (answered 5 (pos 0) (cleared (x .ram .journal .log) (x .charts)))
 

@@ -53,7 +53,7 @@ pub extern "C" fn chart_begin_on(
     log: &mut [u8],
     charts: &mut [u8],
 ) -> u64
-    ensures { λ r. ⌜ Calls (Call.begin) (arrays (now (head .entry)) (now (visits .entry)) (now (scopes .entry)) (now (tail .entry)) (now (copy .entry)) (now (log .entry)) (now (charts .entry))) r
+    ensures { λ r. ⌜ Calls Call.begin (arrays (now (head .entry)) (now (visits .entry)) (now (scopes .entry)) (now (tail .entry)) (now (copy .entry)) (now (log .entry)) (now (charts .entry))) r
         (arrays (now (head .exit)) (now (visits .exit)) (now (scopes .exit)) (now (tail .exit)) (now (copy .exit)) (now (log .exit)) (now (charts .exit))) ⌝ }
 {
     run::begin(head, visits, scopes, tail, copy, log, charts)
@@ -163,7 +163,7 @@ pub extern "C" fn chart_force_on(
     log: &mut [u8],
     charts: &mut [u8],
 ) -> u64
-    ensures { λ r. ⌜ Calls (Call.force) (arrays (now (head .entry)) (now (visits .entry)) (now (scopes .entry)) (now (tail .entry)) (now (copy .entry)) (now (log .entry)) (now (charts .entry))) r
+    ensures { λ r. ⌜ Calls Call.force (arrays (now (head .entry)) (now (visits .entry)) (now (scopes .entry)) (now (tail .entry)) (now (copy .entry)) (now (log .entry)) (now (charts .entry))) r
         (arrays (now (head .exit)) (now (visits .exit)) (now (scopes .exit)) (now (tail .exit)) (now (copy .exit)) (now (log .exit)) (now (charts .exit))) ⌝ }
 {
     run::force(head, visits, scopes, tail, copy, log, charts)

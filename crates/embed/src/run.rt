@@ -38,7 +38,7 @@ pub(crate) fn begin(
     charts: &mut [u8],
 ) -> u64
     requires { ⌜ Lengths (arrays (now head) (now visits) (now scopes) (now tail) (now copy) (now log) (now charts)) ⌝ }
-    ensures { λ r. ⌜ Calls (Call.begin) (arrays (now (head .entry)) (now (visits .entry)) (now (scopes .entry)) (now (tail .entry)) (now (copy .entry)) (now (log .entry)) (now (charts .entry))) r
+    ensures { λ r. ⌜ Calls Call.begin (arrays (now (head .entry)) (now (visits .entry)) (now (scopes .entry)) (now (tail .entry)) (now (copy .entry)) (now (log .entry)) (now (charts .entry))) r
         (arrays (now (head .exit)) (now (visits .exit)) (now (scopes .exit)) (now (tail .exit)) (now (copy .exit)) (now (log .exit)) (now (charts .exit))) ⌝ }
 {
     if !stored_fit(log.len(), charts.len()) {
@@ -183,7 +183,7 @@ pub(crate) fn force(
     charts: &mut [u8],
 ) -> u64
     requires { ⌜ Lengths (arrays (now head) (now visits) (now scopes) (now tail) (now copy) (now log) (now charts)) ⌝ }
-    ensures { λ r. ⌜ Calls (Call.force) (arrays (now (head .entry)) (now (visits .entry)) (now (scopes .entry)) (now (tail .entry)) (now (copy .entry)) (now (log .entry)) (now (charts .entry))) r
+    ensures { λ r. ⌜ Calls Call.force (arrays (now (head .entry)) (now (visits .entry)) (now (scopes .entry)) (now (tail .entry)) (now (copy .entry)) (now (log .entry)) (now (charts .entry))) r
         (arrays (now (head .exit)) (now (visits .exit)) (now (scopes .exit)) (now (tail .exit)) (now (copy .exit)) (now (log .exit)) (now (charts .exit))) ⌝ }
 {
     if !stored_fit(log.len(), charts.len()) {

@@ -16,7 +16,7 @@ use Rattle.embed_model.specs.Packed.{answerIn, fuseIn}
 abbrev pub answeredIn : ℕ → Arrays → Answered
 answeredIn r x = record { answer = answerIn r; world = worldIn x }
 
--- `chart_format`, lent these values of the cells
+-- `chart_format_on`, lent these values of the cells
 pub record Formats (values : List ℤ) (given : Arrays) (r : ℕ) (leaves : Arrays) : Type 0 where
   pub does : FormatPost values (worldIn given) (answeredIn r leaves)
   -- a refusal changes nothing
@@ -25,7 +25,7 @@ pub record Formats (values : List ℤ) (given : Arrays) (r : ℕ) (leaves : Arra
   pub clears : answerIn r .number ≡ 0 → Zero leaves
   pub sized : Lengths leaves
 
--- `chart_open` with this fuse
+-- `chart_open_on` with this fuse
 pub record Opens (fuse : ℕ) (given : Arrays) (r : ℕ) (leaves : Arrays) : Type 0 where
   pub does : OpenPost (fuseIn fuse) (worldIn given) (answeredIn r leaves)
   -- refused for a length: nothing changes

@@ -9,7 +9,7 @@ use Rattle.embed_model.specs.Arrays.{worldIn}
 use Rattle.embed_model.specs.Packed.{answerIn}
 use Rattle.embed_model.specs.Host.{FormatMade, SessionMade, stepsMade, sessionOf, HostOfC}
 
--- after a call of `chart_format` that was done, any sessions made with the others, of a host that keeps to 01
+-- after a call of `chart_format_on` that was done, any sessions made with the others, of a host that keeps to 01
 unfoldable pub Demand3OfC : Type 0
 Demand3OfC =
     (format : FormatMade) → answerIn (format .number) .number ≡ 0 → (ss : List SessionMade) → HostOfC (format .leaves) true (stepsMade ss) →

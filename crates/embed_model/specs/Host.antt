@@ -14,7 +14,7 @@ use Rattle.embed_model.specs.Called.{answeredIn, Formats, Opens, Calls}
 
 -- ── The calls ─────────────────────────────────────────────────────────────────────────────────────────────────────────
 
--- of `chart_format`
+-- of `chart_format_on`
 pub record FormatMade : Type 0 where
   pub cells : List ℤ
   pub given : Arrays
@@ -23,7 +23,7 @@ pub record FormatMade : Type 0 where
   pub leaves : Arrays
   pub ensures : Formats cells given number leaves
 
--- of `chart_open`
+-- of `chart_open_on`
 pub record OpeningMade : Type 0 where
   pub fuse : ℕ
   pub asLeft : Bool  -- it gets the RAM that the call before it left

@@ -28,7 +28,7 @@ noIndex = record { tables = noTables; scopes = replicate scopeLimit unused }
 abbrev pub noneActive : ℕ → Tables
 noneActive begun = record { begun = begun; active = replicate activeLimit vacant; count = 0; used = 0 }
 
--- 01, "Power": RAM is cleared here and nowhere else. A ready opening answers the rows that it wrote.
+-- 01, "Power": an opening that closed the journal answers 5, and RAM is cleared. A ready one answers the rows that it wrote.
 unfoldable pub settledOpening : ℕ → ℕ → Ram → List ℕ → Answered
 settledOpening rows begun m charts =
     let j : Journal = m .journal in

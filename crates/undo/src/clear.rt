@@ -1,4 +1,4 @@
-// RAM after a power failure and of a rejected store.
+// RAM after a format and a power failure, and of a rejected store.
 ghost use mathlib.Core.Path.{_≡_};
 ghost use lib.ListN.{length};
 ghost use Rattle.book.specs.Limits.{chartsLength};
