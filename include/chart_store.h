@@ -35,7 +35,7 @@
 extern "C" {
 #endif
 
-/* Of this header and its functions. */
+/* Of this header. The archive does not know it: link the two from one version. */
 #define CHART_VERSION 1
 
 /* ---- Limits ---- */

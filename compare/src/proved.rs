@@ -246,6 +246,10 @@ impl Store for ProvedStore {
         self.store.ram.bytes()
     }
 
+    fn is_closed(&self) -> bool {
+        self.store.ram.head[0] == 0
+    }
+
     fn log_mut(&mut self) -> &mut [u8] {
         &mut self.store.log
     }
@@ -268,12 +272,16 @@ impl Store for ProvedStore {
         rng.fill(&mut ram.tail);
         noise(seed, &mut ram.copy);
         if rng.chance(5, 6) {
-            let [phase, _, _, stored, waiting, _, active, used] = &mut ram.head;
-            *phase = 1;
+            let [phase, kind, left, stored, waiting, begun, active, used] = &mut ram.head;
+            *phase = u32::from(rng.chance(7, 8));
+            *kind = rng.below(3) as u32;
+            *left = rng.below(100) as u32;
             *stored = rng.below(4_097) as u32;
             *waiting = rng.below(65) as u32;
+            *begun = rng.below(300) as u32;
             *active = rng.below(17) as u32;
             *used = rng.below(65) as u32;
+            ram.visits.iter_mut().for_each(|number| *number %= 18);
         }
     }
 }

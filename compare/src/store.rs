@@ -109,6 +109,10 @@ pub trait Store {
     fn ram(&self) -> Vec<u8> {
         Vec::new()
     }
+    /// Whether RAM says that the store is closed, where the host can read that: then no call changes it.
+    fn is_closed(&self) -> bool {
+        false
+    }
 
     /// The stored log, for a host that writes there.
     fn log_mut(&mut self) -> &mut [u8];

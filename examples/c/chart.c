@@ -17,22 +17,29 @@ static const chart_store store = {&ram, stored_log, sizeof stored_log, stored_ch
 
 static int failures = 0;
 
+/* All that the store is lent, as the last call left it. */
+static chart_ram ram_before;
+static uint8_t log_before[CHART_LOG_LENGTH], charts_before[CHART_CHARTS_LENGTH];
+
+static void remember(void) {
+    ram_before = ram;
+    memcpy(log_before, stored_log, sizeof log_before);
+    memcpy(charts_before, stored_charts, sizeof charts_before);
+}
+
 static void expect(const char *what, chart_answer a, int number, int32_t value) {
     int same = chart_number(a) == number && chart_value(a) == value;
     printf("%-40s %2d %6d  %s%s\n", what, chart_number(a), (int)chart_value(a), chart_text(chart_number(a)), same ? "" : "   <- not as expected");
     failures += !same;
+    remember();
 }
 
-/* The refusal is as expected, and no byte of RAM, log and charts has changed. */
-static void expect_unchanged(const char *what, const chart_store *s, uint8_t cell, int number) {
-    static chart_ram ram_before;
-    static uint8_t log_before[CHART_LOG_LENGTH], charts_before[CHART_CHARTS_LENGTH];
-    ram_before = ram;
-    memcpy(log_before, stored_log, sizeof log_before);
-    memcpy(charts_before, stored_charts, sizeof charts_before);
-    expect(what, chart_read(s, cell), number, 0);
-    if (memcmp(&ram_before, &ram, sizeof ram) != 0 || memcmp(log_before, stored_log, sizeof log_before) != 0 ||
-        memcmp(charts_before, stored_charts, sizeof charts_before) != 0) {
+/* The refusal is as expected, and no byte of RAM, log and charts has changed since the last call. */
+static void expect_unchanged(const char *what, chart_answer a, int number, int32_t value) {
+    int changed = memcmp(&ram_before, &ram, sizeof ram) != 0 || memcmp(log_before, stored_log, sizeof log_before) != 0 ||
+                  memcmp(charts_before, stored_charts, sizeof charts_before) != 0;
+    expect(what, a, number, value);
+    if (changed) {
         puts("   <- a refusal changed a byte");
         failures++;
     }
@@ -47,7 +54,7 @@ int main(void) {
 
     puts("call                                 number  value");
     expect("format, cell 7 at 70,000 g", chart_format(s, cells, CHART_CELLS), CHART_DONE, 0);
-    expect("begin before any opening", chart_begin(s), CHART_CLOSED, 0);
+    expect_unchanged("begin before any opening", chart_begin(s), CHART_CLOSED, 0);
     expect("open, no fuse", chart_open(s, CHART_NO_FUSE), CHART_DONE, 0);
 
     expect("begin: the person's visit", chart_begin(s), CHART_DONE, 1);
@@ -74,22 +81,26 @@ int main(void) {
         puts("   <- the power failure left something in RAM");
         failures++;
     }
-    expect("read cell 7: closed", chart_read(s, 7), CHART_CLOSED, 0);
+    expect_unchanged("read cell 7: closed", chart_read(s, 7), CHART_CLOSED, 0);
+    ram.head[1] = 7;
+    ram.copy[0] = 1;
+    remember();
+    expect_unchanged("begin: closed, whatever RAM holds", chart_begin(s), CHART_CLOSED, 0);
     expect("open: the weighing is undone", chart_open(s, CHART_NO_FUSE), CHART_DONE, 2);
     expect("read cell 7", chart_read(s, 7), CHART_DONE, 69650);
 
     /* Refusals change nothing. */
-    expect("change by a visit that ended", chart_change(s, 3, 7, 1), CHART_NOT_ACTIVE, 0);
-    expect("visit 259 is not visit 3", chart_abort(s, 259), CHART_NOT_ACTIVE, 0);
-    expect("flush page 32", chart_flush(s, CHART_PAGES), CHART_NO_SUCH_PAGE, 0);
-    expect("force", chart_force(s), CHART_DONE, 0);
+    expect_unchanged("change by a visit that ended", chart_change(s, 3, 7, 1), CHART_NOT_ACTIVE, 0);
+    expect_unchanged("visit 259 is not visit 3", chart_abort(s, 259), CHART_NOT_ACTIVE, 0);
+    expect_unchanged("flush page 32", chart_flush(s, CHART_PAGES), CHART_NO_SUCH_PAGE, 0);
+    expect_unchanged("read cell 224", chart_read(s, CHART_CELLS), CHART_NO_SUCH_CELL, 0);
     short_log.log_length -= CHART_ROW_LENGTH;
     no_charts.charts_length = 0;
-    expect_unchanged("read cell 224", s, CHART_CELLS, CHART_NO_SUCH_CELL);
-    expect_unchanged("a log one row short", &short_log, 7, CHART_WRONG_LENGTH);
-    expect_unchanged("no charts", &no_charts, 7, CHART_WRONG_LENGTH);
+    expect_unchanged("a log one row short", chart_force(&short_log), CHART_WRONG_LENGTH, 0);
+    expect_unchanged("no charts", chart_open(&no_charts, CHART_NO_FUSE), CHART_WRONG_LENGTH, 0);
     cells[5] = CHART_FORMAT_GRAMS + 1;
-    expect("format, cell 5 out of range", chart_format(s, cells, CHART_CELLS), CHART_OUT_OF_RANGE, 5);
+    expect_unchanged("format, cell 5 out of range", chart_format(s, cells, CHART_CELLS), CHART_OUT_OF_RANGE, 5);
+    expect("force", chart_force(s), CHART_DONE, 0);
     stored_log[CHART_ROW_LENGTH * 2 + 1] ^= 1;
     expect("open a log whose row 3 was altered", chart_open(s, CHART_NO_FUSE), CHART_BAD_ROW, 3);
 

@@ -21,10 +21,11 @@ impl Arena<'_> {
         for other in &mut self.others {
             alter(&mut Rng::new(seed), other.as_mut());
             for call in calls {
+                let was_closed = other.is_closed();
                 let before = bytes_of(other.as_ref());
                 let answer = guarded(step, other.as_mut(), &|store| store.call(*call))?;
                 let after = bytes_of(other.as_ref());
-                let ends_closed = answer.number == 5 && after.is_closed_after(&before);
+                let ends_closed = answer.number == 5 && !was_closed && after.is_closed_after(&before);
                 let keeps_bytes = answer.number == 0 || before == after || ends_closed;
                 if !is_in_table(*call, answer.number) || !keeps_bytes {
                     let (name, call) = (other.name(), report::call(*call));

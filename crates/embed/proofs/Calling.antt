@@ -77,6 +77,7 @@ module _ (k : Call) (x : Arrays) (right : rightLengths (worldIn x) ≡ true) whe
         keeps = λ p q. refl;
         shut = λ p. refl;
         cut = λ p. inl refl;
+        failed = λ p q. absurd (clash _ p q);
         sized = long;
       }
 
@@ -111,6 +112,15 @@ zero-or-five x v = go (isRunning (x .ram .journal))
     go true = inl refl
     go false = inr refl
 
+-- where it is done the store is open
+done-open : (x : Core) (v : ℤ) → settled x v .answer .number ≡ 0 → isOpenPhase (settled x v .world .state .phase) ≡ true
+unfolding settled worldLeft
+done-open x v = go (isRunning (x .ram .journal)) refl
+  where
+    go : (t : Bool) → isRunning (x .ram .journal) ≡ t → settled x v .answer .number ≡ 0 → isOpenPhase (settled x v .world .state .phase) ≡ true
+    go true e = rw e (λ z. e)
+    go false e = rw e (λ z. absurd (omega arith))
+
 module _ (k : Call) (typed : Typed k) (x : Arrays) (right : rightLengths (worldIn x) ≡ true) (free : numberIn x k ≡ 0)
     (r : Outcome) (visits scopes tail copy log charts : List ℕ) (A : Accepted (coreIn x) k r log charts copy tail visits scopes) where
   is-performed : outcome r log charts copy tail visits scopes ≡ performed (worldIn x) k
@@ -143,12 +153,21 @@ module _ (k : Call) (typed : Typed k) (x : Arrays) (right : rightLengths (worldI
     five : _≡_ {A = ℕ} 5 0 → ⊥
     five e = omega arith
 
+    -- a done call leaves the store open
+    still-open : numberAndValue (r .answer) .number ≡ 0 → isOpenPhase (worldIn leaves .state .phase) ≡ true
+    still-open z =
+        let y = acted (coreIn x) k in
+        let same = left ∙ A .is in
+        ap (λ (w : Answered). isOpenPhase (w .world .state .phase)) same ∙
+        done-open y (valueBy (coreIn x) y k) (sym (ap (λ (w : Answered). w .answer .number) same) ∙ ap (λ (b : Answer). b .number) says ∙ z)
+
     pub accepted-call : Calls k x n leaves
     accepted-call = record {
       does = subst (CallPost k (worldIn x)) (sym (left ∙ is-performed)) (performed-post (worldIn x) k typed);
       keeps = neither;
       shut = λ p. absurd (clash _ (passed (controlOf (x .head)) (countsIn (x .head)) (x .visits) (entries (x .scopes)) k free .running) (shut-phase p));
       cut = λ p. inr (zeroed r head visits scopes tail copy log charts (A .zero (refusal-case (r .answer) (λ z. five (sym p ∙ ap (λ (b : Answer). b .number) says ∙ z)))) written);
+      failed = λ p q. zeroed r head visits scopes tail copy log charts (A .zero (refusal-case (r .answer) (λ z. clash _ (still-open z) q))) written;
       sized = long;
     }
 
@@ -164,5 +183,6 @@ read-call k typed x right free r A n says same long =
       keeps = λ p q. refl;
       shut = λ p. refl;
       cut = λ p. inl refl;
+      failed = λ p q. absurd (clash _ p q);
       sized = long;
     }

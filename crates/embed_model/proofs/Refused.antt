@@ -8,6 +8,7 @@ use mathlib.Core.List.{List}
 use lib.IntN.{ℤ, pos}
 use Rattle.book.specs.Calls.{Call}
 use Rattle.book.specs.Book.{Answer, answer}
+use Rattle.book.proofs.Lists.{clash}
 use Rattle.state.specs.World.{rightLengths}
 use Rattle.state.specs.Contracts.{Answered, formats, CallPost}
 use Rattle.state.proofs.OpenedStores.{opens-refused}
@@ -43,5 +44,6 @@ module _ (x : Arrays) (long : Lengths x) (r : ℕ) (one : answerIn r ≡ answer 
     keeps = λ n m. refl;
     shut = λ e. refl;
     cut = λ e. inl refl;
+    failed = λ p q. absurd (clash _ p q);
     sized = long;
   }

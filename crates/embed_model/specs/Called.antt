@@ -1,7 +1,7 @@
 -- The contracts of the functions for C, over the arrays lent to a call, the number it gives back and the arrays it leaves. Of the worlds that the arrays
 -- are, each is the relation of the store's own call (crate `state`); beyond that it says of every number of RAM what a refusal and a power failure leave.
 use Prim.Native.Nat.{ℕ}
-use mathlib.Core.Bool.{false}
+use mathlib.Core.Bool.{true, false}
 use mathlib.Core.Path.{_≡_}
 use mathlib.Core.Logic.{_≢_, _⊎_}
 use mathlib.Core.List.{List}
@@ -41,6 +41,8 @@ pub record Calls (k : Call) (given : Arrays) (r : ℕ) (leaves : Arrays) : Type 
   pub keeps : answerIn r .number ≢ 0 → answerIn r .number ≢ 5 → leaves ≡ given
   -- nor does any call of a closed store
   pub shut : isOpenPhase (worldIn given .state .phase) ≡ false → leaves ≡ given
-  -- refused by 5: the store was closed and is as it was, or the power failed
+  -- refused by 5: the store was closed or its counters were beyond their limits, and it is as it was; or the power failed
   pub cut : answerIn r .number ≡ 5 → (leaves ≡ given) ⊎ Zero leaves
+  -- open before the call and closed after it: the power failed
+  pub failed : isOpenPhase (worldIn given .state .phase) ≡ true → isOpenPhase (worldIn leaves .state .phase) ≡ false → Zero leaves
   pub sized : Lengths leaves
