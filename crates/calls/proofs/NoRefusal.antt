@@ -26,10 +26,6 @@ module _ (x : Index) (rows : ℕ) where
       let active = passed 6 _ _ (visits .1) in
       (leb-false visitLimit _ (visits .0), leb-false activeLimit _ (active .0))
 
-  -- the next visit's number has 16 bits
-  pub free-visit : (k : Call) → refusalBy x rows k ≡ 0 → k ≡ Call.begin → x .tables .begun < 65535
-  free-visit k e b = omega (arith, free-begin (rw b at e) .0)
-
   -- an entry of the scope table
   pub free-change : (v c : ℕ) (a : ℤ) → refusalBy x rows (Call.change v c a) ≡ 0 → hasEntry x v c ≡ true
   unfolding refusalBy

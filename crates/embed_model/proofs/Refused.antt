@@ -1,8 +1,8 @@
 -- A log or charts of a wrong length: the contracts of all functions are met by refusal 1 with nothing changed.
 use Prim.Native.Nat.{ℕ}
 use native.Mathlib.Omega.{arith}
-use mathlib.Core.Bool.{true, false}
-use mathlib.Core.Path.{_≡_, refl, ap, sym, _∙_, subst}
+use mathlib.Core.Bool.{false}
+use mathlib.Core.Path.{_≡_, refl, ap, sym, subst}
 use mathlib.Core.Logic.{inl}
 use mathlib.Core.List.{List}
 use lib.IntN.{ℤ, pos}
@@ -10,12 +10,12 @@ use Rattle.book.specs.Calls.{Call}
 use Rattle.book.specs.Book.{Answer, answer}
 use Rattle.book.proofs.Lists.{clash}
 use Rattle.state.specs.World.{rightLengths}
-use Rattle.state.specs.Contracts.{Answered, formats, CallPost}
+use Rattle.state.specs.Contracts.{formats, CallPost}
 use Rattle.state.proofs.OpenedStores.{opens-refused}
 use Rattle.state.proofs.Satisfiable.{met-lengths}
 use Rattle.embed_model.specs.Arrays.{Arrays, worldIn, Lengths}
 use Rattle.embed_model.specs.Packed.{answerIn, fuseIn}
-use Rattle.embed_model.specs.Called.{answeredIn, Formats, Opens, Calls}
+use Rattle.embed_model.specs.Called.{Formats, Opens, Calls}
 
 module _ (x : Arrays) (long : Lengths x) (r : ℕ) (one : answerIn r ≡ answer 1 (pos 0)) (wrong : rightLengths (worldIn x) ≡ false) where
   is-one : answerIn r .number ≡ 1

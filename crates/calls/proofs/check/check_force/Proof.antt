@@ -1,6 +1,5 @@
 -- `calls::check::check_force` meets its contract. Assumes nothing.
 use mathlib.Core.Path.{sym, _∙_}
-use mathlib.Core.List.{[]}
 use Rattle.book.specs.Calls.{Call}
 use Rattle.tables_model.specs.Visits.{tablesIn}
 use Rattle.calls.proofs.Performing.{when-not-ready, when-ready}

@@ -1,6 +1,5 @@
 -- `calls::check::check_read` meets its contract. Assumes nothing.
 use mathlib.Core.Path.{sym, _∙_}
-use mathlib.Core.List.{[]}
 use borrow.Author.Tests.{not-true, not-false}
 use Rattle.book.specs.Calls.{Call}
 use Rattle.tables_model.specs.Visits.{tablesIn}
