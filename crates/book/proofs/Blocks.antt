@@ -132,16 +132,3 @@ first-all (suc n) from P e i a b = go (P from) refl e (first-all n (suc from) P)
         its true k = ap P (eqb-true i from k) ∙ q
         its false k = let ne = eqb-false i from k in ih (omega arith) i (omega arith) (omega arith)
     go false q f ih = absurd (omega arith)
-
--- m does, and none before it
-pub first-is : (n from m : ℕ) (P : ℕ → Bool) → from ≤ m → m < from + n → ((i : ℕ) → from ≤ i → i < m → P i ≡ true) → P m ≡ false → firstFailing n from P ≡ m
-first-is zero from m P a b f e = absurd (omega arith)
-first-is (suc n) from m P a b f e = go (eqb from m) refl (first-is n (suc from) m P)
-  where
-    go : (t : Bool) → eqb from m ≡ t
-        → (suc from ≤ m → m < suc from + n → ((i : ℕ) → suc from ≤ i → i < m → P i ≡ true) → P m ≡ false → firstFailing n (suc from) P ≡ m)
-        → firstFailing (suc n) from P ≡ m
-    go true q ih = let is = eqb-true from m q in rw (ap P is ∙ e) is
-    go false q ih =
-        let ne = eqb-false from m q in
-        rw (f from (omega arith) (omega arith)) (ih (omega arith) (omega arith) (λ i c d. f i (omega arith) d) e)

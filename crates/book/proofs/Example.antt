@@ -7,9 +7,10 @@ use Rattle.book.specs.Ledger.{after}
 use Rattle.book.specs.Rules.{reserve, scopesInUse}
 use Rattle.book.specs.Calls.{Call}
 use Rattle.book.specs.Power.{Fuse, none, left, force, add}
-use Rattle.book.specs.Book.{takeBack, refusal, adds, through, value, accepted, call, reopened, reopen, opening}
+use Rattle.book.specs.Book.{takeBack, refusal, adds, through, value, accepted, call, reopened, reopen, opening, done, refusedBy}
 use Rattle.book.specs.Events.{Event, opens, calls}
-use Rattle.book.specs.Cases.{zeros, done, refusedBy, Gives}
+use Rattle.book.specs.Cases.{Gives}
+use Rattle.book.specs.Cells.{zeros}
 
 -- session 1 with the fuse: begin, begin, visit 1 adds -200 to cell 0, hands it to 2, abort 1, commit 2; session 2 with no fuse: read 0
 abbrev pub example : Fuse → List Event

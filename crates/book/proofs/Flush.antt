@@ -79,10 +79,3 @@ module _ (cells : ℕ → ℤ) (rs : List Row) (marks : ℕ → ℕ) (marked : (
           → SamePage (cond t (pageAfter cells rs p) (asOf cells rs q (marks q))) (asOf cells rs q (cond t (lastOn p rs) (marks q)))
       its q true e = rw (eqb-true q p e) (page-whole cells rs p)
       its q false e = record { mark = refl; cells = λ j k. refl }
-
-  pub marked-set : (p q : ℕ) → q < 32 → lastOn q (take (setAt p (lastOn p rs) marks q) rs) ≡ setAt p (lastOn p rs) marks q
-  marked-set p q h = go (eqb q p) refl
-    where
-      go : (t : Bool) → eqb q p ≡ t → lastOn q (take (cond t (lastOn p rs) (marks q)) rs) ≡ cond t (lastOn p rs) (marks q)
-      go true e = rw (eqb-true q p e) (last-take p rs)
-      go false e = marked q h

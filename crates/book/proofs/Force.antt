@@ -1,6 +1,6 @@
 -- Force by the fuse: what it leaves where all its writes land and where one does not, and that it is all one whether the rows are added with a force each
 -- time 64 wait or stored in one go. So an opening whose power holds ends ready.
-use Prim.Native.Nat.{ℕ, zero, suc, _+_, _-_, _<_}
+use Prim.Native.Nat.{ℕ, zero, suc, _-_, _<_}
 use native.Mathlib.Omega.{arith}
 use mathlib.Core.Path.{_≡_, refl, ap, ap₂, sym, _∙_}
 use mathlib.Core.Bool.{Bool, true, false, cond}

@@ -43,3 +43,12 @@ pub mod ReopenedBytes
 pub mod OneVisit
 pub mod Cases
 pub mod Example
+-- worked examples
+pub mod WorkedExamples
+pub mod FullLogs
+pub mod RowRules
+pub mod AtTheLimit
+pub mod TwoViolations
+pub mod HandOvers
+pub mod StoredWrites
+pub mod StoredBytes

@@ -2,24 +2,24 @@
 use Prim.Native.Nat.{ℕ, zero, suc, _+_, _-_, _≤_}
 use native.Mathlib.Omega.{arith}
 use native.Mathlib.Nat.{zero-add, add-zero, add-suc, suc-add}
-use mathlib.Core.Path.{_≡_, refl, ap, sym, _∙_}
+use mathlib.Core.Path.{_≡_, refl, ap, sym}
 use mathlib.Core.Bool.{Bool, true, false}
 use mathlib.Core.List.{List, [], _∷_, _++_, map, append-assoc}
 use lib.ListN.{length, replicate}
 use lib.IntN.{pos}
 use lib.Dec.{leb}
 use borrow.Author.Tests.{le-leb, lt-leb}
-use Rattle.book.specs.Lists.{keep, foldl}
+use Rattle.book.specs.Lists.{keep}
 use Rattle.book.specs.Limits.{rowLimit, tailLimit}
-use Rattle.book.specs.Rows.{Row, fits}
-use Rattle.book.specs.Ledger.{Change, Ledger, empty, continues, scopeFrom, after, ledger}
-use Rattle.book.specs.Rules.{isOpenChange, openChanges, reserve, room, scopesInUse, scopeFits, lawful, withinLimits, allowed, allAllowed, allowedLog}
+use Rattle.book.specs.Rows.{Row}
+use Rattle.book.specs.Ledger.{Change, Ledger, continues, scopeFrom, after, ledger}
+use Rattle.book.specs.Rules.{isOpenChange, openChanges, reserve, room, scopesInUse, scopeFits}
 use Rattle.book.specs.Calls.{Call}
 use Rattle.book.specs.Power.{Book, none, formatted, force, add}
-use Rattle.book.specs.Book.{takeBack, refusal, adds, through, value, accepted, call, reopened, reopen, opening}
+use Rattle.book.specs.Book.{takeBack, refusal, adds, through, value, accepted, call, reopened, reopen, opening, done, refusedBy}
 use Rattle.book.specs.Events.{opens, calls, bookAfter}
-use Rattle.book.specs.Cases.{zeros, done, refusedBy, changesOf}
-use Rattle.book.proofs.Lists.{and-i}
+use Rattle.book.specs.Cases.{changesOf}
+use Rattle.book.specs.Cells.{zeros}
 use Rattle.book.proofs.Logs.{ledger-append}
 use Rattle.book.proofs.InvariantKept.{rows-length}
 use Rattle.book.proofs.Steps.{bookOf}
@@ -56,17 +56,6 @@ pub come-after : (i : ℕ) → after (come i) oneRow ≡ come (suc i)
 unfolding after
 come-after i = refl
 
-come-begun : after empty (Row.begin 1) ≡ come 0
-unfolding after
-come-begun = refl
-
-come-more : (n i : ℕ) → foldl after (come i) (replicate n oneRow) ≡ come (n + i)
-come-more zero i = ap come (sym (zero-add i))
-come-more (suc n) i = ap (λ (l : Ledger). foldl after l (replicate n oneRow)) (come-after i) ∙ come-more n (suc i) ∙ ap come (omega arith)
-
-pub come-is : (i : ℕ) → ledger (Row.begin 1 ∷ replicate i oneRow) ≡ come i
-come-is i = ap (λ (l : Ledger). foldl after l (replicate i oneRow)) come-begun ∙ come-more i 0 ∙ ap come (add-zero i)
-
 all-open : (j i : ℕ) → length (keep (isOpenChange (come j)) (made i)) ≡ i
 all-open j zero = refl
 all-open j (suc i) = ap suc (all-open j i)
@@ -89,21 +78,6 @@ has-room i h = le-leb (1 + length (openChanges (come i)) + 2) (rowLimit - suc i)
 pub no-room : (i : ℕ) → 2047 ≤ i → room (come i) 2 ≡ false
 unfolding reserve
 no-room i h = lt-leb (1 + length (openChanges (come i)) + 2) (rowLimit - suc i) (rw (come-open i) (omega arith))
-
-one-allowed : (i : ℕ) → i ≤ 2046 → allowed (come i) oneRow ≡ true
-unfolding allowed fits lawful withinLimits
-one-allowed i h = rw (scope-fits i, has-room i h)
-
-more-allowed : (n i : ℕ) → n + i ≤ 2047 → allAllowed (come i) (replicate n oneRow) ≡ true
-more-allowed zero i h = refl
-more-allowed (suc n) i h = and-i _ _ (one-allowed i (omega arith)) (rw (come-after i) (more-allowed n (suc i) (omega arith)))
-
--- a begin and up to 2,047 such rows are an allowed log
-pub come-allowed : (i : ℕ) → i ≤ 2047 → allowedLog (Row.begin 1 ∷ replicate i oneRow) ≡ true
-come-allowed i h = and-i _ _ first (rw come-begun (more-allowed i 0 (omega arith)))
-  where
-    first : allowed empty (Row.begin 1) ≡ true
-    first = unfold allowed fits lawful withinLimits reserve in refl
 
 -- ── The book ──────────────────────────────────────────────────────────────────────────────────────────────────────────
 

@@ -9,14 +9,13 @@ use lib.ListN.{length, length-append, length-map}
 use lib.IntN.{ℤ, pos}
 use borrow.Author.Tests.{ne-eqb}
 use Rattle.book.specs.Lists.{keep}
-use Rattle.book.specs.Rows.{Row}
+use Rattle.book.specs.Rows.{Row, isUndo}
 use Rattle.book.specs.Ledger.{Change, Ledger, ledger}
-use Rattle.book.specs.Rules.{openChanges, openHeld, reserve, isOpenChange, allowedLog}
+use Rattle.book.specs.Rules.{openChanges, openHeld, isOpenChange, allowedLog}
 use Rattle.book.specs.Cells.{applied, keptSum}
 use Rattle.book.specs.Power.{Book, Fuse, PowerHolds}
 use Rattle.book.specs.Book.{undoOf, takeBack, everyone, closing, Answer, answer, refused, ended, reopened, reopen, opening}
 use Rattle.book.specs.Logs.{Sound}
-use Rattle.book.specs.Cases.{isUndo}
 use Rattle.book.proofs.Lists.{in-keep, keep-all, keep-none, keep-append, keep-map}
 use Rattle.book.proofs.Invariant.{Inv}
 use Rattle.book.proofs.InvariantKept.{inv-log}
@@ -27,16 +26,6 @@ use Rattle.book.proofs.Force.{reopened-empty, reopened-holds}
 use Rattle.book.proofs.Sound.{opening-book, stored-allowed}
 
 -- ── The rows that an opening names ────────────────────────────────────────────────────────────────────────────────────
-
--- 01: free and reserve make an opening never lack space: its rows are as many as the reserve
-pub closing-length : (l : Ledger) → length (closing l) ≡ reserve l
-unfolding takeBack reserve
-closing-length l =
-    let u = length-map (openHeld everyone l) undoOf in
-    let a = length-map (keep everyone (l .active)) Row.abort in
-    let xs = ap length (keep-all (λ (x : Change). everyone (x .holder)) (openChanges l) (λ x m. refl)) in
-    let vs = ap length (keep-all everyone (l .active) (λ v m. refl)) in
-    let n = length-append (map undoOf (openHeld everyone l)) (map Row.abort (keep everyone (l .active))) in omega arith
 
 -- and as many of them are undo rows as there are open changes
 pub closing-undos : (l : Ledger) → Inv l → length (keep isUndo (closing l)) ≡ length (openChanges l)

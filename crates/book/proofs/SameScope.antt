@@ -10,9 +10,6 @@ use Rattle.book.proofs.Lists.{and-i}
 use Rattle.book.proofs.Invariant.{Falling, same-row}
 use Rattle.book.proofs.Scoped.{Alike, Started, Scoped}
 
-pub alike-sym : (x y : Change) → Alike x y → Alike y x
-alike-sym x y a = record { maker = sym (a .maker); cell = sym (a .cell); holder = sym (a .holder); handed = sym (a .handed) }
-
 -- the change that starts the scope
 pub alike-start : (xs : List Change) (x : Change) (d : Started xs x) → Alike (d .s) x
 alike-start xs x d = record { maker = d .maker; cell = d .cell; holder = d .holder; handed = d .handed }

@@ -26,10 +26,11 @@ undoOf x = Row.undo (x .holder) (x .cell) (x .row) (x .amount)
 unfoldable pub takeBack : (ℕ → Bool) → Ledger → List Row
 takeBack who l = map undoOf (openHeld who l) ++ map Row.abort (keep who (l .active))
 
--- 01: an opening takes back what is open over all visits
+-- the set of all visits
 abbrev pub everyone : ℕ → Bool
 everyone v = true
 
+-- 01: the rows of an opening's backward part: it takes back what is open over all visits
 abbrev pub closing : Ledger → List Row
 closing l = takeBack everyone l
 
@@ -86,6 +87,7 @@ valueOf cells b k theRow = pos (length (rowsOf b) + length (adds b k))
 valueOf cells b k (theCell c) = applied cells (rowsOf b) c
 valueOf cells b k zeroValue = pos 0
 
+-- what an accepted call returns
 unfoldable pub value : (ℕ → ℤ) → Book → Call → ℤ
 value cells b k = valueOf cells b k (returns k)
 
@@ -99,19 +101,28 @@ pub record Answer : Type 0 where
 abbrev pub answer : ℕ → ℤ → Answer
 answer n v = record { number = n; value = v }
 
+-- 01: done, and of an opening ready
+abbrev pub done : ℤ → Answer
+done v = answer 0 v
+
+-- 01: values not named are 0
+abbrev pub refusedBy : ℕ → Answer
+refusedBy n = answer n (pos 0)
+
 -- the answer and the book after it
 pub record Outcome : Type 0 where
   pub answer : Answer
   pub book : Book
 
--- 01: values not named are 0
+-- 01: refused by a number other than 5, or by 5 because the book is closed; the book is as given
 abbrev pub refused : ℕ → Book → Outcome
-refused n b = record { answer = answer n (pos 0); book = b }
+refused n b = record { answer = refusedBy n; book = b }
 
 -- 01: an accepted call answers 5 if the power failed in it
 abbrev pub ended : ℤ → Book → Outcome
-ended v b = cond (b .isOpen) (record { answer = answer 0 v; book = b }) (refused 5 b)
+ended v b = cond (b .isOpen) (record { answer = done v; book = b }) (refused 5 b)
 
+-- a call that no check refuses
 unfoldable pub accepted : (ℕ → ℤ) → Book → Call → Outcome
 accepted cells b k = ended (value cells b k) (through b k)
 
@@ -120,7 +131,7 @@ abbrev pub decide : (ℕ → ℤ) → Book → Call → ℕ → Outcome
 decide cells b k zero = accepted cells b k
 decide cells b k (suc n) = refused (suc n) b
 
--- 01: a call by the book. `lengths` says that the lent buffers have 01's lengths. `cells` is the formatted value of each cell, for read alone.
+-- 01: a call by the book. `lengths` says that the lent buffers have 01's lengths. `cells` are the cells that the rows start from, for read alone.
 unfoldable pub call : (ℕ → ℤ) → Book → Bool → Call → Outcome
 call cells b lengths k = decide cells b k ((1, not lengths) else (5, not (b .isOpen)) else refusal b k)
 

@@ -4,6 +4,7 @@ use lib.IntN.{ℤ}
 use lib.Dec.{T}
 use Rattle.book.specs.Rows.{isAmount}
 
+-- 01: begin, change, hand over, commit, abort, force, flush page, read
 pub data Call : Type 0 where
   begin : Call
   change : (visit cell : ℕ) (amount : ℤ) → Call

@@ -1,37 +1,28 @@
 -- The cases of document 01 that are marked *, as one conjunction over the definitions.
 use Prim.Native.Nat.{ℕ}
-use mathlib.Core.Bool.{Bool, true, not}
+use mathlib.Core.Bool.{true}
 use mathlib.Core.Path.{_≡_}
 use mathlib.Core.List.{List, [], _∷_, map}
 use lib.ListN.{replicate}
 use lib.IntN.{ℤ, pos, negsuc}
-use lib.Dec.{eqb}
 use Rattle.book.specs.Lists.{keep}
-use Rattle.book.specs.Rows.{Row, undoneBy}
+use Rattle.book.specs.Rows.{Row, isUndo}
 use Rattle.book.specs.Calls.{Call}
 use Rattle.book.specs.Power.{none, left, formatted}
-use Rattle.book.specs.Book.{Answer, answer}
+use Rattle.book.specs.Cells.{zeros}
+use Rattle.book.specs.Book.{Answer, done, refusedBy}
 use Rattle.book.specs.Events.{Event, opens, calls, happens, answers, bookAfter}
 use Rattle.book.specs.LogBytes.{logBytes}
 use Rattle.book.specs.Pages.{chartBytes, pageAfter, cellOf}
 use Rattle.book.specs.Opening.{Opened, openBytes}
 
--- formatted at zero, and with 5 in each cell
-abbrev pub zeros : ℕ → ℤ
-zeros c = pos 0
-
+-- formatted with 5 in each cell
 abbrev pub fives : ℕ → ℤ
 fives c = pos 5
 
 -- an opening with no fuse, then these calls
 abbrev pub session : List Call → List Event
 session ks = opens true none ∷ map (calls true) ks
-
-abbrev pub done : ℤ → Answer
-done v = answer 0 v
-
-abbrev pub refusedBy : ℕ → Answer
-refusedBy n = answer n (pos 0)
 
 -- a formatted store gives these answers to these events, the openings among them
 abbrev pub Gives : (ℕ → ℤ) → List Event → List Answer → Type 0
@@ -40,9 +31,6 @@ Gives cells es given = answers cells formatted es ≡ given
 -- the answer to one more call
 abbrev pub then : List Event → Call → Answer
 then es k = happens zeros (bookAfter zeros formatted es) (calls true k) .answer
-
-abbrev pub isUndo : Row → Bool
-isUndo r = not (eqb (undoneBy r) 0)
 
 -- An empty store opens with fuse 0: ready, 0 rows.
 abbrev pub EmptyOpens : Type 0

@@ -9,6 +9,10 @@ use Rattle.book.specs.Limits.{places}
 use Rattle.book.specs.Rows.{Row, Effect, nothing, moves, effect}
 use Rattle.book.specs.Ledger.{Change, Ledger, ledger}
 
+-- formatted at zero
+abbrev pub zeros : ℕ → ℤ
+zeros c = pos 0
+
 -- what an effect moves cell c by
 abbrev pub moved : ℕ → Effect → ℤ
 moved c nothing = pos 0
@@ -18,7 +22,7 @@ moved c (moves k a) = cond (eqb k c) a (pos 0)
 abbrev pub movedBy : ℕ → Row → ℤ
 movedBy c r = moved c (effect r)
 
--- the rows applied to cell c, from its formatted value on
+-- the rows applied to cell c, from the value on that they start from
 abbrev pub applied : (ℕ → ℤ) → List Row → ℕ → ℤ
 applied cells rs c = cells c +ℤ total (map (movedBy c) rs)
 
@@ -26,6 +30,7 @@ applied cells rs c = cells c +ℤ total (map (movedBy c) rs)
 abbrev pub pageOfCell : ℕ → ℕ
 pageOfCell c = c / places
 
+-- the effect is on the page
 abbrev pub touches : ℕ → Effect → Bool
 touches p nothing = false
 touches p (moves c a) = eqb (pageOfCell c) p

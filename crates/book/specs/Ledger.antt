@@ -82,6 +82,7 @@ pass g r cs x = cond (holds g cs x) (given r x) x
 
 -- ── One row more ──────────────────────────────────────────────────────────────────────────────────────────────────────
 
+-- begin rows so far
 abbrev pub begunAfter : ℕ → Row → ℕ
 begunAfter n (begin v) = suc n
 begunAfter n (change v c a) = n
@@ -99,6 +100,7 @@ activeAfter vs (undo h c k a) = vs
 activeAfter vs (commit v) = without v vs
 activeAfter vs (abort v) = without v vs
 
+-- 01: the visits with a commit row
 abbrev pub committedAfter : List ℕ → Row → List ℕ
 committedAfter vs (begin v) = vs
 committedAfter vs (change v c a) = vs
@@ -107,6 +109,7 @@ committedAfter vs (undo h c k a) = vs
 committedAfter vs (commit v) = v ∷ vs
 committedAfter vs (abort v) = vs
 
+-- 01: the visits that an undo row bears
 abbrev pub undoingAfter : List ℕ → Row → List ℕ
 undoingAfter vs (begin v) = vs
 undoingAfter vs (change v c a) = vs
@@ -115,6 +118,7 @@ undoingAfter vs (undo h c k a) = h ∷ vs
 undoingAfter vs (commit v) = vs
 undoingAfter vs (abort v) = vs
 
+-- 01: the rows that an undo row names
 abbrev pub undoneAfter : List ℕ → Row → List ℕ
 undoneAfter ns (begin v) = ns
 undoneAfter ns (change v c a) = ns
@@ -123,6 +127,7 @@ undoneAfter ns (undo h c k a) = k ∷ ns
 undoneAfter ns (commit v) = ns
 undoneAfter ns (abort v) = ns
 
+-- a change joins the changes, a hand-over passes some on
 abbrev pub changesAfter : Ledger → Row → List Change
 changesAfter l (begin v) = l .changes
 changesAfter l (change v c a) = newChange l v c a ∷ l .changes
@@ -131,6 +136,7 @@ changesAfter l (undo h c k a) = l .changes
 changesAfter l (commit v) = l .changes
 changesAfter l (abort v) = l .changes
 
+-- the ledger with the row
 unfoldable pub after : Ledger → Row → Ledger
 after l r = record {
   rows = suc (l .rows);

@@ -32,6 +32,7 @@ pub data Log : Type 0 where
   good : (rows : List Row) → Log
   bad : (number row : ℕ) → Log
 
+-- the row before what was found after it
 abbrev pub consLog : Row → Log → Log
 consLog r (good rs) = good (r ∷ rs)
 consLog r (bad k n) = bad k n
@@ -52,5 +53,6 @@ readRows (suc k) n l bs =
     let rest = consLog r (readRows k (suc n) (after l r) (drop rowLength bs)) in
     cond (eqb (getD bs 0 0) 0) (readEnd (suc k) n bs) (cond (eqb j 0) rest (bad j n))
 
+-- 01: what the check of the stored log finds
 unfoldable pub readLog : List ℕ → Log
 readLog bs = readRows rowLimit 1 empty bs

@@ -41,6 +41,7 @@ recovered charts o = record {
 abbrev pub badPage : List Row → List ℕ → ℕ
 badPage rs charts = firstFailing pageLimit 0 (λ p. isPage rs p (pageAt charts p))
 
+-- 01: log before pages
 abbrev pub checked : Fuse → List ℕ → List ℕ → Log → Opened
 checked f log charts (bad n row) = rejected n row log
 checked f log charts (good rs) =

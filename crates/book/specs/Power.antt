@@ -51,6 +51,7 @@ abbrev pub storeFirst : Book → List Row → Book
 storeFirst b [] = b
 storeFirst b (r ∷ rs) = land (b .fuse) (b .stored) (b .stored ++ (r ∷ [])) rs
 
+-- 01: a stored write of one row
 abbrev pub storeRow : Book → Book
 storeRow b = storeFirst b (b .waiting)
 
@@ -77,5 +78,6 @@ append b r = cond (b .isOpen) (record { stored = b .stored; waiting = b .waiting
 unfoldable pub add : Book → Row → Book
 add b r = append (cond (leb tailLimit (length (b .waiting))) (force b) b) r
 
+-- one row after another
 abbrev pub addAll : Book → List Row → Book
 addAll b rs = foldl add b rs

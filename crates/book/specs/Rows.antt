@@ -1,9 +1,9 @@
 -- The rows of the log as events (document 01, "The store"): their kinds, what each does to the charts, and which fields fit their bytes.
 use Prim.Native.Nat.{ℕ}
-use mathlib.Core.Bool.{Bool, _&&_}
+use mathlib.Core.Bool.{Bool, not, _&&_}
 use lib.IntN.{ℤ, pos, negsuc, negℤ}
 use lib.Signed.{leZ}
-use lib.Dec.{leb, ltb}
+use lib.Dec.{eqb, leb, ltb}
 use Rattle.book.specs.Limits.{rowLimit, cellLimit, visitLimit}
 
 -- 01: a row of the log, by its kind. Row n is the n-th of the list, from 1.
@@ -17,6 +17,7 @@ pub data Row : Type 0 where
 
 -- ── What a row does to the charts ─────────────────────────────────────────────────────────────────────────────────────
 
+-- a cell moves by so many grams, or nothing does
 pub data Effect : Type 0 where
   nothing : Effect
   moves : (cell : ℕ) (amount : ℤ) → Effect
@@ -38,6 +39,10 @@ undoneBy (handOver g r c) = 0
 undoneBy (undo h c n a) = n
 undoneBy (commit v) = 0
 undoneBy (abort v) = 0
+
+-- an undo row: rows are numbered from 1
+abbrev pub isUndo : Row → Bool
+isUndo r = not (eqb (undoneBy r) 0)
 
 -- the visit that an abort row ends, 0 for every other row
 abbrev pub abortedBy : Row → ℕ
@@ -66,6 +71,7 @@ isAmount a = leZ (negsuc 32767) a && leZ a (pos 32767)
 abbrev pub isRowNumber : ℕ → Bool
 isRowNumber n = leb 1 n && leb n rowLimit
 
+-- every field of the row is in its range
 unfoldable pub fits : Row → Bool
 fits (begin v) = isVisit v
 fits (change v c a) = isVisit v && isCell c && isAmount a

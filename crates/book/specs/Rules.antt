@@ -1,4 +1,5 @@
--- Which row is allowed after which (document 01, "Row rules"). Bytes, rules and limits are separate tests, joined in `allowed`.
+-- Which row is allowed after which (document 01, "Row rules"). Ranges of fields, rules and limits are separate tests, joined in `allowed`; `LogBytes.judge` has
+-- the bytes too.
 use Prim.Native.Nat.{ℕ, suc, _+_, _-_}
 use mathlib.Core.Bool.{Bool, true, false, not, _&&_, _||_}
 use mathlib.Core.List.{List, [], _∷_}

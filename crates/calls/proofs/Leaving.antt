@@ -10,14 +10,15 @@ use lib.ListN.{length}
 use Rattle.book.specs.Calls.{Call, Return, theVisit, theRow, theCell, zeroValue, returns}
 use Rattle.book.specs.Rows.{Row}
 use Rattle.tables_model.specs.declared.Counts.{Counts}
-use Rattle.tables_model.specs.Entries.{scopeOf}
+use Rattle.tables_model.specs.Meaning.{scopeOf}
 use Rattle.tables_model.specs.Visits.{InRange}
 use Rattle.tables_model.specs.Rows.{stepBy}
 use Rattle.tables.proofs.Ranges.{step-range}
 use Rattle.state.specs.declared.answers.Answer.{Answer}
 use Rattle.state.specs.declared.ram.Phase.{Phase}
 use Rattle.state.specs.declared.ram.Phase.the-variants.{Open, Closed}
-use Rattle.state.specs.Answers.{refusal, numberAndValue, done, caseOf, doneCase}
+use Rattle.state.specs.Answers.{refusal, numberAndValue, caseOf, doneCase}
+use Rattle.book.specs.Book.{done}
 use Rattle.state.specs.World.{world, isOpenPhase, cleared}
 use Rattle.state.specs.Contracts.{Answered, answered}
 use Rattle.journal.specs.declared.Control.{Control}
@@ -28,7 +29,7 @@ use Rattle.undo.proofs.Clearing.{zeroed-outcome}
 use Rattle.undo.proofs.Counters.{counters}
 use Rattle.calls_model.specs.Acts.{Core, core, acted, fell, valueFrom, valueBy, Accepts}
 use Rattle.calls_model.specs.Refusals.{refusalBy}
-use Rattle.calls_model.specs.Perform.{worldIn, settled, accepted, Accepted, Held, Failed}
+use Rattle.calls_model.specs.Perform.{worldOfCore, settled, acceptedBy, Accepted, Held, Failed}
 use Rattle.calls.proofs.CallSteps.{indexIn}
 use Rattle.calls.proofs.CountersAfter.{counters-acted}
 use Rattle.calls.proofs.NoRefusal.{free-begin, free-change}
@@ -73,7 +74,7 @@ apart zeroValue e = let z : _≡_ {A = ℕ} 0 1 = cc in omega arith
 
 module _ (x y : Core) (k : Call) (is : y ≡ acted x k) where
   -- the power failed
-  when-cut : y .ram .journal .control .phase ≡ Closed → answered 5 (pos 0) (cleared (y .ram .journal .log) (y .charts)) ≡ accepted x k
+  when-cut : y .ram .journal .control .phase ≡ Closed → answered 5 (pos 0) (cleared (y .ram .journal .log) (y .charts)) ≡ acceptedBy x k
   unfolding settled
   when-cut e = rw (← is, e)
 
@@ -83,8 +84,8 @@ module _ (x y : Core) (k : Call) (is : y ≡ acted x k) where
       → _≡_ {A = Answered} (record {
         answer = numberAndValue a;
         world = world (stateAfter (y .ram .journal .control) (y .tables) (y .ram .journal .tail)) (y .ram .journal .log) (y .charts) (y .ram .copy) (map scopeOf (y .scopes));
-      }) (accepted x k)
-  unfolding settled worldIn valueBy
+      }) (acceptedBy x k)
+  unfolding settled worldOfCore valueBy
   when-done a e p = rw (p, is, value-now x k) (rw (rw is at e))
 
 module _ (c : Control) (t : Counts) (visits log charts copy tail scopes : List ℕ) (k : Call) (A : Accepts c t (length log) (length copy) (length tail) visits scopes k) where

@@ -8,7 +8,7 @@ use native.Mathlib.Omega.{arith}
 use borrow.Author.Tests.{leb-true, not-false}
 use Rattle.book.specs.Calls.{Call}
 use Rattle.book.specs.Scopes.{Scope}
-use Rattle.book.specs.Book.{Answer, _else_}
+use Rattle.book.specs.Book.{Answer, _else_, refusedBy}
 use Rattle.book.proofs.Adds.{passes}
 use Rattle.book.proofs.Lists.{and-l, and-r}
 use Rattle.tables_model.specs.declared.Counts.{Counts}
@@ -16,7 +16,6 @@ use Rattle.tables_model.specs.declared.Tables.{Tables}
 use Rattle.tables_model.specs.Visits.{InRange, tablesIn}
 use Rattle.state.specs.declared.ram.Phase.{Phase}
 use Rattle.state.specs.declared.ram.Phase.the-variants.{Open}
-use Rattle.state.specs.Answers.{refusedBy}
 use Rattle.state.specs.World.{World, isOpenPhase}
 use Rattle.state.specs.Contracts.{Answered}
 use Rattle.journal.specs.declared.Control.{Control}

@@ -5,13 +5,13 @@ ghost use mathlib.Core.List.{List};
 ghost use Prim.Native.Nat.{ℕ, _+_, _≤_};
 ghost use lib.IntN.{pos};
 ghost use lib.ListN.{length};
-ghost use Rattle.book.specs.Limits.{chartsLength};
+ghost use Rattle.book.specs.Limits.{chartsLength, rowLimit};
 ghost use Rattle.book.specs.Calls.{Call};
-ghost use Rattle.tables_model.specs.Entries.{flatLength};
-ghost use Rattle.tables_model.specs.Visits.{visitsLength};
-ghost use Rattle.state.specs.Answers.{row, numberAndValue, done, caseOf};
+ghost use Rattle.tables_model.specs.Layout.{flatLength, visitsLength};
+ghost use Rattle.state.specs.Answers.{row, numberAndValue, caseOf};
+ghost use Rattle.book.specs.Book.{done};
 ghost use Rattle.state.specs.Requests.{callOf};
-ghost use Rattle.journal.specs.Outcomes.{tailLength};
+ghost use Rattle.state.specs.World.{tailLength};
 ghost use Rattle.calls_model.specs.Acts.{core, Accepts};
 ghost use Rattle.calls_model.specs.Perform.{Accepted, Held, Failed};
 use crate::act::Acted;
@@ -66,7 +66,7 @@ fn settle(
 
 // The answer of a call that returns its row's number: that of the last row.
 fn row_answer(c: Control) -> Answer
-    requires { ⌜ c .stored + c .waiting ≤ 4096 ⌝ }
+    requires { ⌜ c .stored + c .waiting ≤ rowLimit ⌝ }
     ensures { λ r. ⌜ (numberAndValue r ≡ done (pos (c .stored + c .waiting))) × (caseOf r ≡ row) ⌝ }
 {
     Answer::Row(Lsn((c.stored + c.waiting) as u16))

@@ -6,6 +6,7 @@ ghost use mathlib.Core.List.{List};
 ghost use lib.Dec.{leb};
 ghost use lib.ListN.{length};
 ghost use Rattle.book.specs.Calls.{Call};
+ghost use Rattle.book.specs.Limits.{pageLimit, chartsLength};
 ghost use Rattle.tables_model.specs.declared.Counts.{Counts as TheCounts};
 ghost use Rattle.undo.specs.Writing.{Fits};
 ghost use Rattle.calls_model.specs.Acts.{core, acted, Accepts};
@@ -18,6 +19,7 @@ use rows::Cell;
 use rows::Lsn;
 use rows::Row;
 use rows::Visit;
+use rows::limits::PAGE_LENGTH;
 use tables::steps::after_change;
 use tables::steps::after_end;
 use tables::visits::with_begun;
@@ -175,14 +177,14 @@ pub(crate) fn flush(
     tail: &mut [u8],
     page: u8,
 ) -> Control
-    requires { ⌜ Fits c (length (now log)) (length (now tail)) (length (now copy)) × (length (now charts) ≡ 1024) × (page < 32) ⌝ }
+    requires { ⌜ Fits c (length (now log)) (length (now tail)) (length (now copy)) × (length (now charts) ≡ chartsLength) × (page < pageLimit) ⌝ }
     ensures { λ r. ⌜ ((t : TheCounts) (visits scopes : List ℕ) → core r t visits (now (log .exit)) (now (charts .exit)) (now (copy .entry)) (now (tail .exit)) scopes
         ≡ acted (core c t visits (now (log .entry)) (now (charts .entry)) (now (copy .entry)) (now (tail .entry)) scopes) (Call.flush page)) ⌝ }
 {
     let p = page as usize;
     let m = up_to_mark(c, read_mark(copy, p));
     let d = force_up_to(c, log, tail, m);
-    let s = 32 * p;
-    let e = s + 32;
+    let s = PAGE_LENGTH * p;
+    let e = s + PAGE_LENGTH;
     write_page(d, charts, p, &copy[s..e])
 }

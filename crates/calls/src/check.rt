@@ -7,9 +7,10 @@ ghost use lib.IntN.{ℤ};
 ghost use lib.ListN.{length};
 ghost use Rattle.book.specs.Calls.{Call};
 ghost use Rattle.book.specs.Scopes.{Scope};
-ghost use Rattle.tables_model.specs.Entries.{flatLength, entries};
-ghost use Rattle.tables_model.specs.Visits.{tablesIn, visitsLength};
-ghost use Rattle.state.specs.Answers.{numberAndValue, refusedBy};
+ghost use Rattle.tables_model.specs.Layout.{flatLength, entries, visitsLength};
+ghost use Rattle.tables_model.specs.Visits.{tablesIn};
+ghost use Rattle.state.specs.Answers.{numberAndValue};
+ghost use Rattle.book.specs.Book.{refusedBy};
 ghost use Rattle.state.specs.Requests.{callOf};
 ghost use Rattle.state.specs.World.{isOpenPhase};
 ghost use Rattle.calls_model.specs.Perform.{isCoherent, numberBy, Flat};
@@ -22,6 +23,10 @@ use crate::refuse::refuse_read;
 use journal::Control;
 use rows::Cell;
 use rows::Visit;
+use rows::limits::ACTIVE_LIMIT;
+use rows::limits::ROW_LIMIT;
+use rows::limits::SCOPE_LIMIT;
+use rows::limits::TAIL_LIMIT;
 use state::answers::Answer;
 use state::ram::Phase;
 use state::requests::Request;
@@ -31,16 +36,16 @@ use tables_model::Counts;
 fn is_coherent(c: Control, t: Counts) -> bool
     ensures { λ r. ⌜ ((vs : List ℕ) → r ≡ isCoherent c (tablesIn t vs)) ⌝ }
 {
-    if 64 < c.waiting {
+    if TAIL_LIMIT < c.waiting {
         return false;
     }
-    if 4096 - c.waiting < c.stored {
+    if ROW_LIMIT - c.waiting < c.stored {
         return false;
     }
-    if 16 < t.count {
+    if ACTIVE_LIMIT < t.count {
         return false;
     }
-    t.used <= 64
+    t.used <= SCOPE_LIMIT
 }
 
 // The store is open, and its counters are within their limits.

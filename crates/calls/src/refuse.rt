@@ -7,16 +7,19 @@ ghost use mathlib.Core.List.{List};
 ghost use lib.Dec.{ltb};
 ghost use lib.IntN.{ℤ};
 ghost use lib.ListN.{length};
-ghost use Rattle.book.specs.Book.{_else_};
+ghost use Rattle.book.specs.Book.{_else_, refusedBy};
 ghost use Rattle.book.specs.Calls.{Call};
 ghost use Rattle.book.specs.Limits.{pageLimit};
 ghost use Rattle.book.specs.Rows.{isCell};
 ghost use Rattle.tables_model.specs.Visits.{tablesIn, Listed, isListed};
 ghost use Rattle.tables_model.specs.Rows.{Ready, Ranged, index};
-ghost use Rattle.state.specs.Answers.{numberAndValue, refusedBy};
+ghost use Rattle.state.specs.Answers.{numberAndValue};
 ghost use Rattle.calls_model.specs.Refusals.{refusalBy};
 use rows::Cell;
 use rows::Visit;
+use rows::limits::ACTIVE_LIMIT;
+use rows::limits::PAGE_LIMIT;
+use rows::ranges::VISITS;
 use rows::ranges::is_cell;
 use state::answers::Answer;
 use tables::lookup::holds_cell;
@@ -26,12 +29,8 @@ use tables::visits::is_listed;
 use tables_model::CellSet;
 use tables_model::Counts;
 
-// Document 01: 255 visits, 16 of them active; 32 pages.
-const VISITS: u16 = 255;
-
-const ACTIVE: usize = 16;
-
-const PAGES: u8 = 32;
+// The limit of pages as a number of a page's type.
+const PAGES: u8 = PAGE_LIMIT as u8;
 
 pub(crate) fn refuse_begin(t: Counts, scopes: &[u16], rows: usize) -> Answer
     requires { ⌜ Ranged t (length (now scopes)) ⌝ }
@@ -40,7 +39,7 @@ pub(crate) fn refuse_begin(t: Counts, scopes: &[u16], rows: usize) -> Answer
     if VISITS <= t.begun {
         return Answer::VisitsUsedUp;
     }
-    if ACTIVE <= t.count {
+    if ACTIVE_LIMIT <= t.count {
         return Answer::TooManyActive;
     }
     if has_room(t, scopes, rows, 2) {

@@ -29,10 +29,11 @@ use Rattle.book.proofs.TakeBack.{takenBack, take-back, abort-rows, abort-leaves
 use Rattle.tables_model.specs.declared.Active.{Active}
 use Rattle.tables_model.specs.declared.Tables.{Tables}
 use Rattle.tables_model.specs.declared.Whom.the-variants.{One}
-use Rattle.tables_model.specs.Visits.{vacant, withEnded}
+use Rattle.tables_model.specs.Visits.{withEnded}
+use Rattle.tables_model.specs.Meaning.{vacant, activeOf, tablesOf, scopeTable}
 use Rattle.tables_model.specs.Table.{Scopes, scopesEnded}
 use Rattle.tables_model.specs.Rows.{Index, stepBy, afterEnd}
-use Rattle.tables_model.specs.Meaning.{activeOf, tablesOf, scopeTable, indexOf}
+use Rattle.tables_model.specs.Lookup.{indexOf}
 use Rattle.tables_model.proofs.ActiveVisits.{visitsOf, tablesWith, tables-with, ended-visits}
 use Rattle.tables_model.proofs.Undoing.{used-is}
 use Rattle.tables_model.proofs.Step.{step-by}

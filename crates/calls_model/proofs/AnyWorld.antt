@@ -28,7 +28,7 @@ use Rattle.journal.specs.Journal.{paged}
 use Rattle.undo.specs.Writing.{isRunning}
 use Rattle.calls_model.specs.Refusals.{refusalBy}
 use Rattle.calls_model.specs.Acts.{Core, acted}
-use Rattle.calls_model.specs.Perform.{controlIn, coreOf, worldIn, settled, decided, isCoherent, numberOf, performed}
+use Rattle.calls_model.specs.Perform.{controlIn, coreOf, worldOfCore, settled, decided, isCoherent, numberOf, performed}
 
 -- ── The numbers ───────────────────────────────────────────────────────────────────────────────────────────────────────
 
@@ -111,7 +111,7 @@ unfolding settled
 settled-either x k v = go (isRunning (acted x k .ram .journal)) refl
   where
     go : (t : Bool) → isRunning (acted x k .ram .journal) ≡ t
-        → Settled (x .charts) (cond t (answered 0 v (worldIn (acted x k))) (answered 5 (pos 0) (cleared (acted x k .ram .journal .log) (acted x k .charts))))
+        → Settled (x .charts) (cond t (answered 0 v (worldOfCore (acted x k))) (answered 5 (pos 0) (cleared (acted x k .ram .journal .log) (acted x k .charts))))
     go true e = done refl
     go false e = closed (ap (λ (cs : List ℕ). answered 5 (pos 0) (cleared (acted x k .ram .journal .log) cs)) (charts-cut x k e))
 

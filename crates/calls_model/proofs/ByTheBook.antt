@@ -18,7 +18,8 @@ use Rattle.book.proofs.Lists.{clash, and-i}
 use Rattle.book.proofs.InvariantKept.{few-rows}
 use Rattle.book.proofs.Steps.{bookOf}
 use Rattle.book.proofs.Sound.{sound-through}
-use Rattle.tables_model.specs.Meaning.{tablesOf, indexOf}
+use Rattle.tables_model.specs.Meaning.{tablesOf}
+use Rattle.tables_model.specs.Lookup.{indexOf}
 use Rattle.tables_model.proofs.WithinLimits.{in-range}
 use Rattle.state.specs.World.{World, rightLengths, isOpenPhase, closedState, openState, stateOf, worldOf, Represents}
 use Rattle.state.specs.Contracts.{Answered, answered, withPage, chartsAfter, byBook}

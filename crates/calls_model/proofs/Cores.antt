@@ -3,9 +3,8 @@
 use Prim.Native.Nat.{ℕ}
 use mathlib.Core.Path.{_≡_, refl, ap, ap₂, _∙_}
 use mathlib.Core.Bool.{Bool, true, false, cond}
-use mathlib.Core.List.{List, [], _∷_, map}
+use mathlib.Core.List.{List}
 use lib.IntN.{ℤ, pos}
-use Rattle.tables_model.specs.Entries.{scopeOf, scopeIn}
 use Rattle.book.specs.Rows.{Row}
 use Rattle.book.specs.Scopes.{Scope}
 use Rattle.book.specs.Power.{Book, Fuse, rowsOf, ledgerOf}
@@ -16,8 +15,9 @@ use Rattle.book.specs.Pages.{chartBytes, pageAfter}
 use Rattle.book.proofs.Lists.{clash}
 use Rattle.book.proofs.Steps.{bookOf}
 use Rattle.tables_model.specs.Rows.{Index}
-use Rattle.tables_model.specs.Meaning.{tablesOf, scopeTable, indexOf}
-use Rattle.tables_model.specs.declared.Scope as ram
+use Rattle.tables_model.specs.Meaning.{tablesOf, scopeTable}
+use Rattle.tables_model.specs.Lookup.{indexOf}
+use Rattle.tables_model.proofs.EntriesBack.{entries-back}
 use Rattle.state.specs.World.{World, stateOf, tableOf, copyOf, worldOf, cleared}
 use Rattle.state.specs.Contracts.{Answered, answered}
 use Rattle.journal.specs.Journal.{Journal}
@@ -25,7 +25,7 @@ use Rattle.journal.specs.Meaning.{controlOf, journalOf}
 use Rattle.undo.specs.Writing.{Ram, isRunning}
 use Rattle.undo.proofs.RowWritten.{Stands, running}
 use Rattle.calls_model.specs.Acts.{Core}
-use Rattle.calls_model.specs.Perform.{coreOf, worldIn, settled}
+use Rattle.calls_model.specs.Perform.{coreOf, worldOfCore, settled}
 
 abbrev pub ramOf : (ℕ → ℤ) → Book → Ram
 ramOf cells b = record { journal = journalOf b; copy = chartBytes (pageAfter cells (rowsOf b)) }
@@ -38,10 +38,6 @@ pub ram-stands : (cells : ℕ → ℤ) (b : Book) → Stands cells b (ramOf cell
 ram-stands cells b = record { journal = refl; copy = λ o. refl }
 
 -- ── Worlds and cores ──────────────────────────────────────────────────────────────────────────────────────────────────
-
-entries-back : (ss : List Scope) → map scopeIn (map scopeOf ss) ≡ ss
-entries-back [] = refl
-entries-back (s ∷ ss) = ap (λ (ts : List Scope). s ∷ ts) (entries-back ss)
 
 module _ (cells : ℕ → ℤ) (charts : List ℕ) where
   pub core-of : (b : Book) → b .isOpen ≡ true → coreOf (worldOf cells b charts) ≡ coreFor cells b charts
@@ -58,11 +54,11 @@ module _ (cells : ℕ → ℤ) (charts : List ℕ) where
           }) (entries-back (scopeTable (ledgerOf (bookOf s w f true))))
       go s w f false o = clash false o refl
 
-  pub world-in : (b : Book) → b .isOpen ≡ true → worldIn (coreFor cells b charts) ≡ worldOf cells b charts
-  unfolding worldIn worldOf stateOf tableOf copyOf journalOf controlOf
+  pub world-in : (b : Book) → b .isOpen ≡ true → worldOfCore (coreFor cells b charts) ≡ worldOf cells b charts
+  unfolding worldOfCore worldOf stateOf tableOf copyOf journalOf controlOf
   world-in b = go (b .stored) (b .waiting) (b .fuse) (b .isOpen)
     where
-      go : (s w : List Row) (f : Fuse) (t : Bool) → t ≡ true → worldIn (coreFor cells (bookOf s w f t) charts) ≡ worldOf cells (bookOf s w f t) charts
+      go : (s w : List Row) (f : Fuse) (t : Bool) → t ≡ true → worldOfCore (coreFor cells (bookOf s w f t) charts) ≡ worldOf cells (bookOf s w f t) charts
       go s w f true o = refl
       go s w f false o = clash false o refl
 
@@ -106,12 +102,12 @@ pub settled-is : (cells : ℕ → ℤ) (b : Book) → Sound b → (given done : 
     → (b .isOpen ≡ true → v ≡ z) → settled y v ≡ settledFor cells b given done z
 unfolding settled
 settled-is cells b s given done y v z r value =
-    ap (λ (t : Bool). cond t (answered 0 v (worldIn y)) (answered 5 (pos 0) (cleared (y .ram .journal .log) (y .charts)))) (r .runs) ∙ go (b .isOpen) refl
+    ap (λ (t : Bool). cond t (answered 0 v (worldOfCore y)) (answered 5 (pos 0) (cleared (y .ram .journal .log) (y .charts)))) (r .runs) ∙ go (b .isOpen) refl
   where
     go : (t : Bool) → b .isOpen ≡ t
-        → cond t (answered 0 v (worldIn y)) (answered 5 (pos 0) (cleared (y .ram .journal .log) (y .charts)))
+        → cond t (answered 0 v (worldOfCore y)) (answered 5 (pos 0) (cleared (y .ram .journal .log) (y .charts)))
         ≡ record { answer = cond t (record { answer = answer 0 z; book = b }) (refused 5 b) .answer; world = worldOf cells b (cond t done given) }
-    go true o = ap₂ (λ (u : ℤ) (w : World). answered 0 u w) (value o) (ap worldIn (r .opened o) ∙ world-in cells done b o)
+    go true o = ap₂ (λ (u : ℤ) (w : World). answered 0 u w) (value o) (ap worldOfCore (r .opened o) ∙ world-in cells done b o)
     go false o =
         ap (answered 5 (pos 0))
         (ap₂ (λ (log charts : List ℕ). cleared log charts) (r .log) (r .cut o) ∙ world-cleared cells given b o)

@@ -14,7 +14,8 @@ use Rattle.book.specs.Power.{Book, rowsOf, ledgerOf}
 use Rattle.book.specs.Book.{_else_, refusal}
 use Rattle.book.proofs.Scoped.{scoped-log}
 use Rattle.tables_model.specs.Rows.{roomBy, growsBy, holdsBy}
-use Rattle.tables_model.specs.Meaning.{tablesOf, indexOf}
+use Rattle.tables_model.specs.Meaning.{tablesOf}
+use Rattle.tables_model.specs.Lookup.{indexOf}
 use Rattle.tables_model.proofs.ActiveVisits.{is-listed}
 use Rattle.tables_model.proofs.Judge.{holds-by, room-by, fits-by}
 use Rattle.undo.proofs.Steady.{Steady}

@@ -20,7 +20,8 @@ use Rattle.book.proofs.Steps.{extends-through}
 use Rattle.book.proofs.Adds.{fine-adds}
 use Rattle.book.proofs.Sound.{sound-inv}
 use Rattle.tables_model.specs.Rows.{stepBy, afterChange}
-use Rattle.tables_model.specs.Meaning.{tablesOf, indexOf, beforeUndone}
+use Rattle.tables_model.specs.Meaning.{tablesOf}
+use Rattle.tables_model.specs.Lookup.{indexOf, beforeUndone}
 use Rattle.tables_model.proofs.Step.{step-by}
 use Rattle.undo.specs.Writing.{written}
 use Rattle.undo.proofs.Steady.{steady-sound, steady-add}

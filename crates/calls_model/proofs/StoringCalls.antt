@@ -26,7 +26,8 @@ use Rattle.book.proofs.Steps.{bookOf, extends-through}
 use Rattle.book.proofs.Adds.{passes}
 use Rattle.book.proofs.Marks.{last-le}
 use Rattle.book.proofs.Pages.{page-at, mark-back}
-use Rattle.tables_model.specs.Meaning.{tablesOf, scopeTable, indexOf}
+use Rattle.tables_model.specs.Meaning.{tablesOf, scopeTable}
+use Rattle.tables_model.specs.Lookup.{indexOf}
 use Rattle.state.specs.World.{isOpenPhase}
 use Rattle.state.specs.Contracts.{withPage}
 use Rattle.journal.specs.declared.Control.{Control}

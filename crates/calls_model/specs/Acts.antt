@@ -13,7 +13,7 @@ use Rattle.book.specs.Calls.{Call, Return, theVisit, theRow, theCell, zeroValue
 use Rattle.book.specs.Pages.{pageAt, pageOf, cellOf}
 use Rattle.tables_model.specs.declared.Counts.{Counts}
 use Rattle.tables_model.specs.declared.Tables.{Tables}
-use Rattle.tables_model.specs.Entries.{entries}
+use Rattle.tables_model.specs.Layout.{entries}
 use Rattle.tables_model.specs.Rows.{Ready, index}
 use Rattle.tables_model.specs.declared.Whom.the-variants.{One}
 use Rattle.tables_model.specs.Visits.{tablesIn, withBegun, withEnded, withUsed}
@@ -42,8 +42,8 @@ abbrev pub forcedRam : Ram → Ram
 forcedRam m = record { journal = forced (m .journal); copy = m .copy }
 
 -- the visit ends: its scopes are let go
-abbrev pub ended : Core → ℕ → Core
-ended x v =
+abbrev pub visitEnded : Core → ℕ → Core
+visitEnded x v =
     let s : Scopes = scopesEnded (x .tables .used) v (x .scopes) in
     record { ram = x .ram; charts = x .charts; tables = withEnded (x .tables) v (s .used); scopes = s .entries }
 
@@ -84,8 +84,8 @@ acted x Call.begin =
 acted x (Call.change v c a) = changed x v c a
 acted x (Call.handOver g r c) =
     record { ram = written (x .ram) (Row.handOver g r c); charts = x .charts; tables = x .tables; scopes = scopesHanded (x .tables .used) g r (only c) (x .scopes) }
-acted x (Call.commit v) = ended (withRam x (forcedRam (written (x .ram) (Row.commit v)))) v
-acted x (Call.abort v) = let y : Core = fell x v in ended (withRam y (written (y .ram) (Row.abort v))) v
+acted x (Call.commit v) = visitEnded (withRam x (forcedRam (written (x .ram) (Row.commit v)))) v
+acted x (Call.abort v) = let y : Core = fell x v in visitEnded (withRam y (written (y .ram) (Row.abort v))) v
 acted x Call.force = withRam x (forcedRam (x .ram))
 acted x (Call.flush p) = flushed x p
 acted x (Call.read c) = x

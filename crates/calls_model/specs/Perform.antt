@@ -11,8 +11,9 @@ use Rattle.book.specs.Calls.{Call, returns}
 use Rattle.book.specs.Book.{_else_}
 use Rattle.tables_model.specs.declared.Counts.{Counts}
 use Rattle.tables_model.specs.declared.Tables.{Tables}
-use Rattle.tables_model.specs.Entries.{scopeIn, scopeOf, flatLength}
-use Rattle.tables_model.specs.Visits.{visitsLength}
+use Rattle.tables_model.specs.Entries.{scopeIn}
+use Rattle.tables_model.specs.Layout.{flatLength, visitsLength}
+use Rattle.tables_model.specs.Meaning.{scopeOf}
 use Rattle.state.specs.declared.ram.State.{State}
 use Rattle.state.specs.declared.answers.Answer.{Answer}
 use Rattle.state.specs.declared.answers.Answer.the-variants as Answer
@@ -44,8 +45,8 @@ coreOf w = record {
 }
 
 -- and what it leaves
-unfoldable pub worldIn : Core → World
-worldIn x = record {
+unfoldable pub worldOfCore : Core → World
+worldOfCore x = record {
   state = record {
     phase = x .ram .journal .control .phase;
     fuse = x .ram .journal .control .fuse;
@@ -60,9 +61,9 @@ worldIn x = record {
   scopes = map scopeOf (x .scopes);
 }
 
--- 01, "Power": an accepted call that closed the journal answers 5, and RAM is cleared
+-- 01, "Power": an acceptedBy call that closed the journal answers 5, and RAM is cleared
 unfoldable pub settled : Core → ℤ → Answered
-settled x v = cond (isRunning (x .ram .journal)) (answered 0 v (worldIn x)) (answered 5 (pos 0) (cleared (x .ram .journal .log) (x .charts)))
+settled x v = cond (isRunning (x .ram .journal)) (answered 0 v (worldOfCore x)) (answered 5 (pos 0) (cleared (x .ram .journal .log) (x .charts)))
 
 abbrev pub decided : World → Call → ℕ → Answered
 decided w k zero = let x : Core = coreOf w in let y : Core = acted x k in settled y (valueBy x y k)
@@ -83,19 +84,19 @@ performed w k = decided w k (numberOf w k)
 -- ── What the functions ask and leave ──────────────────────────────────────────────────────────────────────────────────
 
 -- a call that no check refuses
-abbrev pub accepted : Core → Call → Answered
-accepted x k = let y : Core = acted x k in settled y (valueBy x y k)
+abbrev pub acceptedBy : Core → Call → Answered
+acceptedBy x k = let y : Core = acted x k in settled y (valueBy x y k)
 
 -- what such a call comes to on the lent arrays
 pub record Accepted (x : Core) (k : Call) (r : Outcome) (log charts copy tail visits flat : List ℕ) : Type 0 where
-  pub is : outcome r log charts copy tail visits flat ≡ accepted x k
+  pub is : outcome r log charts copy tail visits flat ≡ acceptedBy x k
   pub case : HasCase (doneCase (returns k)) (r .answer)
   -- the power failed: every number of RAM is 0
   pub zero : caseOf (r .answer) ≡ refusal → Zeroed r copy tail visits flat
   pub bounded : Bounded (r .control) (r .counts)
 
 -- the lent bytes have their lengths
-pub record Lent (log charts copy : ℕ) : Type 0 where
+pub record LentLengths (log charts copy : ℕ) : Type 0 where
   pub log-long : log ≡ logLength
   pub charts-long : charts ≡ chartsLength
   pub copy-long : copy ≡ chartsLength
@@ -105,7 +106,7 @@ pub record Flat (visits scopes : ℕ) : Type 0 where
   pub visits-long : visits ≡ visitsLength
   pub scopes-long : scopes ≡ flatLength
 
--- the power held in an accepted call: it leaves what its work left
+-- the power held in an acceptedBy call: it leaves what its work left
 pub record Held (c : Control) (t : Counts) (a : Answer) (copy tail visits flat : List ℕ) (r : Outcome) (copy′ tail′ visits′ flat′ : List ℕ) : Type 0 where
   pub running : c .phase ≡ Open
   pub is : r ≡ record { answer = a; control = c; counts = t }

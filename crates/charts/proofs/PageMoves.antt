@@ -1,15 +1,14 @@
 -- What a move makes of the bytes of a page: those of the page with that cell moved and the row's number as its mark, whatever the numbers,
 -- since the bits of a sum are the sum of the bits. Subtracting what was added gives the page back, but for its mark. Assumes nothing.
-use mathlib.Core.Path.{_≡_, refl, ap, _∙_}
-use mathlib.Core.Bool.{Bool, true, false, cond}
+use mathlib.Core.Path.{_≡_, ap, _∙_}
+use mathlib.Core.Bool.{cond}
 use Prim.Native.Nat.{ℕ, zero, suc, _+_, _%_, _<_}
 use native.Mathlib.Omega.{arith}
-use lib.IntN.{ℤ, negℤ, _+ℤ_, +ℤ-negℤ-cancel}
+use lib.IntN.{ℤ, _+ℤ_}
 use lib.Dec.{eqb}
 use Rattle.book.specs.Numbers.{le, number, bitsOf}
 use Rattle.book.specs.Pages.{Page, pageBytes}
 use Rattle.book.proofs.Numbers.{four-bytes}
-use Rattle.book.proofs.Pages.{page-same}
 use Rattle.charts.specs.Moves.{pageMoved}
 use Rattle.charts.proofs.Sums.{bits-below, bits-sum}
 
@@ -31,17 +30,3 @@ page-moved g (suc (suc (suc (suc zero)))) z n h = rw (sum-read (g .cell 4) z)
 page-moved g (suc (suc (suc (suc (suc zero))))) z n h = rw (sum-read (g .cell 5) z)
 page-moved g (suc (suc (suc (suc (suc (suc zero)))))) z n h = rw (sum-read (g .cell 6) z)
 page-moved g (suc (suc (suc (suc (suc (suc (suc j))))))) z n h = absurd (omega arith)
-
--- 01: an undo subtracts the change as first logged
-pub page-restored : (g : Page) (j : ℕ) (z : ℤ) (n m : ℕ) → j < 7
-    → pageMoved (pageMoved (pageBytes g) j z n) j (negℤ z) m ≡ pageBytes (record { mark = m; cell = g .cell })
-page-restored g j z n m h =
-    rw (page-moved g j z n h) (page-moved (movedPage g j z n) j (negℤ z) m h ∙
-    page-same (movedPage (movedPage g j z n) j (negℤ z) m) (record { mark = m; cell = g .cell }) (record {
-      mark = refl;
-      cells = λ i k. back (eqb i j) (g .cell i);
-    }))
-  where
-    back : (t : Bool) (y : ℤ) → cond t (cond t (y +ℤ z) y +ℤ negℤ z) (cond t (y +ℤ z) y) ≡ y
-    back true y = +ℤ-negℤ-cancel y z
-    back false y = refl

@@ -1,37 +1,12 @@
-// Numbers in bytes: little-endian, and two's complement for signed ones.
+// Numbers put into bytes, little-endian, and signed numbers as their 32 bits, in two's complement.
 use rows::numbers::high;
 use rows::numbers::low;
-use rows::numbers::word;
 ghost use mathlib.Core.Path.{_≡_};
-ghost use Prim.Native.Nat.{_+_, _*_, _<_, _≤_, _^_, _%_};
+ghost use Prim.Native.Nat.{_+_, _≤_, _^_, _%_};
 ghost use lib.ListN.{length};
 ghost use lib.Seq.{sets};
-ghost use Rattle.book.specs.Numbers.{le, number, bitsOf, signed};
+ghost use Rattle.book.specs.Numbers.{le, bitsOf, signed};
 ghost use Rattle.charts.specs.Moves.{amountOf};
-
-// A byte as 32 bits.
-fn wide(x: u8) -> u32
-    ensures { λ r. ⌜ (r ≡ x) × (r < 256) ⌝ }
-{
-    x as u32
-}
-
-// The number in two bytes.
-pub(crate) fn read16(b: &[u8], at: usize) -> u16
-    requires { ⌜ at + 2 ≤ length (now b) ⌝ }
-    ensures { λ r. ⌜ r ≡ number 2 (now (b .entry)) at ⌝ }
-{
-    word(b[at], b[at + 1])
-}
-
-// The number in four bytes.
-pub(crate) fn read32(b: &[u8], at: usize) -> u32
-    requires { ⌜ at + 4 ≤ length (now b) ⌝ }
-    ensures { λ r. ⌜ r ≡ number 4 (now (b .entry)) at ⌝ }
-{
-    let high = wide(b[at + 2]) + 256 * wide(b[at + 3]);
-    wide(b[at]) + 256 * (wide(b[at + 1]) + 256 * high)
-}
 
 // A number put into two bytes.
 pub(crate) fn write16(b: &mut [u8], at: usize, x: u16)
@@ -65,7 +40,7 @@ pub(crate) fn signed32(x: u32) -> i32
 }
 
 // The 32 bits of a signed number.
-pub(crate) fn bits32(z: i32) -> u32
+pub fn bits32(z: i32) -> u32
     ensures { λ r. ⌜ r ≡ bitsOf 32 z ⌝ }
 {
     let up = (z as i64 + 4294967296) as u64;

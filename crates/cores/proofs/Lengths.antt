@@ -13,14 +13,14 @@ use Rattle.state.specs.declared.answers.Answer.the-variants.{WrongLength}
 use Rattle.state.specs.declared.ram.State.{State}
 use Rattle.state.specs.World.{World, world, rightLengths}
 use Rattle.state.specs.Contracts.{Returned, returned}
-use Rattle.calls_model.specs.Perform.{Lent}
+use Rattle.calls_model.specs.Perform.{LentLengths}
 use Rattle.cores.specs.Lent.{ByValue}
 
 -- as the code checks them, of a lent table of n entries
 abbrev pub fitting : ℕ → ℕ → ℕ → ℕ → Bool
 fitting log charts copy n = eqb log logLength && eqb charts chartsLength && eqb copy chartsLength && eqb n scopeLimit
 
-pub fit : (log charts copy n : ℕ) → fitting log charts copy n ≡ true → Lent log charts copy × (n ≡ scopeLimit)
+pub fit : (log charts copy n : ℕ) → fitting log charts copy n ≡ true → LentLengths log charts copy × (n ≡ scopeLimit)
 fit log charts copy n e =
     let x = eqb log logLength in
     let y = eqb charts chartsLength in

@@ -8,8 +8,9 @@ use lib.ListN.{length}
 use borrow.Author.Tests.{eq-eqb}
 use Rattle.book.specs.Calls.{Call, Typed, returns}
 use Rattle.tables_model.specs.declared.Scope.{Scope}
-use Rattle.tables_model.specs.Entries.{entries, scopeIn}
-use Rattle.tables_model.specs.Visits.{actives, tablesIn}
+use Rattle.tables_model.specs.Entries.{scopeIn}
+use Rattle.tables_model.specs.Layout.{entries, actives}
+use Rattle.tables_model.specs.Visits.{tablesIn}
 use Rattle.state.specs.declared.ram.State.{State}
 use Rattle.state.specs.declared.requests.Request.{Request}
 use Rattle.state.specs.Answers.{doneCase, HasCase}
@@ -18,7 +19,7 @@ use Rattle.state.specs.World.{World, world, rightLengths}
 use Rattle.state.specs.Contracts.{Returned, answeredBy, CallPost}
 use Rattle.state.specs.Functions.{Calls}
 use Rattle.calls_model.specs.Acts.{core}
-use Rattle.calls_model.specs.Perform.{controlIn, coreOf, decided, numberBy, numberOf, performed, accepted, Lent}
+use Rattle.calls_model.specs.Perform.{controlIn, coreOf, decided, numberBy, numberOf, performed, acceptedBy, LentLengths}
 use Rattle.calls_model.proofs.AnyWorld.{wrong-lengths}
 use Rattle.calls_model.proofs.Post.{performed-post}
 use Rattle.cores.specs.Lent.{countsIn}
@@ -29,7 +30,7 @@ use Rattle.cores.proofs.Lengths.{wrongLength}
 module _ (s : State) (log charts copy : List ℕ) (table : List Scope) (visits flat : List ℕ) (k : Call)
     (places : actives visits ≡ s .tables .active) (scopes : entries flat ≡ map scopeIn table) where
   -- the lengths are right: the number of every check is that of the others
-  pub right-number : Lent (length log) (length charts) (length copy) → length table ≡ 64
+  pub right-number : LentLengths (length log) (length charts) (length copy) → length table ≡ 64
       → numberBy (controlIn s) (tablesIn (countsIn (s .tables)) visits) (entries flat) k ≡ numberOf (world s log charts copy table) k
   unfolding numberOf
   right-number lent long =
@@ -37,7 +38,7 @@ module _ (s : State) (log charts copy : List ℕ) (table : List Scope) (visits f
 
   -- no check refuses
   pub when-accepted : (n : ℕ) → n ≡ 0
-      → accepted (core (controlIn s) (countsIn (s .tables)) visits log charts copy (s .tail) flat) k ≡ decided (world s log charts copy table) k n
+      → acceptedBy (core (controlIn s) (countsIn (s .tables)) visits log charts copy (s .tail) flat) k ≡ decided (world s log charts copy table) k n
   unfolding coreOf
   when-accepted n e = rw (e, places, scopes)
 

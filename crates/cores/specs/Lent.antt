@@ -4,7 +4,7 @@ use mathlib.Core.Path.{_≡_}
 use mathlib.Core.Logic.{_≢_}
 use mathlib.Core.List.{List}
 use lib.ListN.{length, replicate}
-use Rattle.tables_model.specs.Entries.{scopeOf}
+use Rattle.tables_model.specs.Meaning.{scopeOf}
 use Rattle.book.specs.Limits.{scopeLimit}
 use Rattle.book.specs.Scopes.{unused}
 use Rattle.tables_model.specs.declared.Counts.{Counts}

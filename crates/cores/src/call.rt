@@ -7,23 +7,26 @@ ghost use Rattle.state.specs.Contracts.{returned, answeredBy};
 ghost use Rattle.state.specs.Functions.{Calls};
 ghost use Rattle.state.specs.Requests.{callOf};
 ghost use Rattle.state.specs.World.{world};
-ghost use Rattle.calls_model.specs.Perform.{performed, Lent};
+ghost use Rattle.calls_model.specs.Perform.{performed, LentLengths};
 ghost use Rattle.cores.specs.Lent.{ByValue};
 use crate::crossing::flat_into;
 use crate::crossing::visits_into;
 use crate::outs::Out;
 use crate::outs::out_after;
 use crate::outs::out_with;
-use crate::ram::control_of;
-use crate::ram::counts_of;
+use crate::ram::control_in;
+use crate::ram::counts_in;
 use calls::accept::accept;
 use calls::check::check;
 use journal::lengths::lengths_fit;
+use rows::limits::SCOPE_LIMIT;
 use state::answers::Answer;
 use state::answers::number_of;
 use state::ram::State;
 use state::requests::Request;
 use state::requests::is_typed;
+use tables::layout::FLAT_LENGTH;
+use tables::layout::VISITS_LENGTH;
 use tables_model::Scope;
 
 // The checks but that of the lengths, and the call. A refusal leaves state and table as they are.
@@ -32,22 +35,22 @@ fn decide(
     log: &mut [u8],
     charts: &mut [u8],
     copy: &mut [u8],
-    table: [Scope; 64],
+    table: [Scope; SCOPE_LIMIT],
     request: Request,
 ) -> Out
-    requires { ⌜ Lent (length (now log)) (length (now charts)) (length (now copy)) ⌝ }
+    requires { ⌜ LentLengths (length (now log)) (length (now charts)) (length (now copy)) ⌝ }
     ensures { λ r. ⌜ (answeredBy (returned (r .result) (now (log .exit)) (now (charts .exit)) (now (copy .exit)) (r .table))
         ≡ performed (world state (now (log .entry)) (now (charts .entry)) (now (copy .entry)) table) (callOf request))
         × HasCase (doneCase (returns (callOf request))) (r .result .answer) ⌝ }
 {
     let tables = state.tables;
     let active = tables.active;
-    let mut visits = [0u16; 32];
+    let mut visits = [0u16; VISITS_LENGTH];
     visits_into(active, &mut visits);
-    let mut flat = [0u16; 448];
+    let mut flat = [0u16; FLAT_LENGTH];
     flat_into(table, &mut flat);
-    let c = control_of(state);
-    let t = counts_of(tables);
+    let c = control_in(state);
+    let t = counts_in(tables);
     let refusal = check(c, t, &visits, &flat, request);
     if number_of(refusal) != 0 {
         return out_with(refusal, state, table);
@@ -74,7 +77,7 @@ pub fn call_core(
     charts: &mut [u8],
     copy: &mut [u8],
     n: usize,
-    t: [Scope; 64],
+    t: [Scope; SCOPE_LIMIT],
     request: Request,
 ) -> Out
     ensures { λ r. ⌜ ByValue (Calls request) (world state (now (log .entry)) (now (charts .entry)) (now (copy .entry))) n t

@@ -12,10 +12,14 @@ use journal::lengths::lengths_fit;
 use journal::writes::clear;
 use recovery::format::format;
 use recovery::open::open;
+use rows::limits::SCOPE_LIMIT;
+use rows::limits::TAIL_LENGTH;
 use state::answers::Answer;
 use state::answers::number_of;
 use state::ram::Fuse;
 use state::ram::State;
+use tables::layout::FLAT_LENGTH;
+use tables::layout::VISITS_LENGTH;
 use tables_model::Scope;
 
 // A format that is done closes the store and clears RAM.
@@ -25,7 +29,7 @@ pub fn format_core(
     charts: &mut [u8],
     copy: &mut [u8],
     n: usize,
-    t: [Scope; 64],
+    t: [Scope; SCOPE_LIMIT],
     cells: &[i32],
 ) -> Out
     ensures { λ r. ⌜ ByValue (Formats (now (cells .entry))) (world state (now (log .entry)) (now (charts .entry)) (now (copy .entry))) n t
@@ -50,7 +54,7 @@ pub fn open_core(
     charts: &mut [u8],
     copy: &mut [u8],
     n: usize,
-    t: [Scope; 64],
+    t: [Scope; SCOPE_LIMIT],
     fuse: Fuse,
 ) -> Out
     ensures { λ r. ⌜ ByValue (Opens fuse) (world state (now (log .entry)) (now (charts .entry)) (now (copy .entry))) n t
@@ -59,9 +63,9 @@ pub fn open_core(
     if !lengths_fit(log.len(), charts.len(), copy.len(), n) {
         return out_with(Answer::WrongLength, state, t);
     }
-    let mut visits = [0u16; 32];
-    let mut flat = [0u16; 448];
-    let mut tail = [0u8; 1024];
+    let mut visits = [0u16; VISITS_LENGTH];
+    let mut flat = [0u16; FLAT_LENGTH];
+    let mut tail = [0u8; TAIL_LENGTH];
     let o = open(fuse, log, charts, copy, &mut tail, &mut visits, &mut flat);
     out_after(o, &visits, tail, &flat)
 }

@@ -2,13 +2,16 @@
 ghost use mathlib.Core.Path.{_≡_};
 ghost use mathlib.Core.List.{map};
 ghost use lib.ListN.{length};
-ghost use Rattle.tables_model.specs.Entries.{scopeOf, entries};
+ghost use Rattle.tables_model.specs.Layout.{entries};
+ghost use Rattle.tables_model.specs.Meaning.{scopeOf};
 ghost use Rattle.tables_model.specs.Visits.{tablesIn};
 ghost use Rattle.journal.specs.Outcomes.{stateAfter};
 ghost use Rattle.calls_model.specs.Perform.{Flat};
 use crate::crossing::table_from;
 use crate::ram::state_after;
 use journal::Outcome;
+use rows::limits::SCOPE_LIMIT;
+use rows::limits::TAIL_LENGTH;
 use state::answers::Answer;
 use state::answers::Result;
 use state::ram::State;
@@ -16,10 +19,10 @@ use tables_model::Scope;
 
 pub struct Out {
     pub result: Result,
-    pub table: [Scope; 64],
+    pub table: [Scope; SCOPE_LIMIT],
 }
 
-pub fn out_of(r: Result, t: [Scope; 64]) -> Out
+pub fn out_of(r: Result, t: [Scope; SCOPE_LIMIT]) -> Out
     ensures { λ o. ⌜ o ≡ record { result = r; table = t } ⌝ }
 {
     Out {
@@ -35,7 +38,7 @@ pub fn result_of(o: Out) -> Result
     r
 }
 
-pub fn table_of(o: Out) -> [Scope; 64]
+pub fn table_of(o: Out) -> [Scope; SCOPE_LIMIT]
     ensures { λ r. ⌜ r ≡ o .table ⌝ }
 {
     let t = o.table;
@@ -43,7 +46,7 @@ pub fn table_of(o: Out) -> [Scope; 64]
 }
 
 // This answer, state and table.
-pub(crate) fn out_with(answer: Answer, state: State, table: [Scope; 64]) -> Out
+pub(crate) fn out_with(answer: Answer, state: State, table: [Scope; SCOPE_LIMIT]) -> Out
     ensures { λ r. ⌜ r ≡ record { result = record { state = state; answer = answer }; table = table } ⌝ }
 {
     Out {
@@ -56,7 +59,7 @@ pub(crate) fn out_with(answer: Answer, state: State, table: [Scope; 64]) -> Out
 }
 
 // What a call on the flat tables and a tail came to.
-pub(crate) fn out_after(o: Outcome, visits: &[u16], tail: [u8; 1024], flat: &[u16]) -> Out
+pub(crate) fn out_after(o: Outcome, visits: &[u16], tail: [u8; TAIL_LENGTH], flat: &[u16]) -> Out
     requires { ⌜ Flat (length (now visits)) (length (now flat)) ⌝ }
     ensures { λ r. ⌜ r ≡ record {
       result = record { state = stateAfter (o .control) (tablesIn (o .counts) (now (visits .entry))) tail; answer = o .answer };

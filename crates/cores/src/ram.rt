@@ -1,7 +1,8 @@
 // The state between its struct and the parts that a call works on.
 ghost use mathlib.Core.Path.{_≡_};
 ghost use lib.ListN.{length};
-ghost use Rattle.tables_model.specs.Visits.{visitsLength, tablesIn};
+ghost use Rattle.tables_model.specs.Visits.{tablesIn};
+ghost use Rattle.tables_model.specs.Layout.{visitsLength};
 ghost use Rattle.state.specs.World.{closedState};
 ghost use Rattle.journal.specs.Outcomes.{stateAfter};
 ghost use Rattle.calls_model.specs.Perform.{controlIn};
@@ -10,6 +11,7 @@ use crate::crossing::visits_from;
 use crate::entries::vacant_places;
 use journal::Control;
 use journal::Outcome;
+use rows::limits::TAIL_LENGTH;
 use state::ram::Fuse;
 use state::ram::Phase;
 use state::ram::State;
@@ -17,7 +19,7 @@ use tables_model::Counts;
 use tables_model::Tables;
 
 // Where the journal stands.
-pub fn control_of(s: State) -> Control
+pub fn control_in(s: State) -> Control
     ensures { λ r. ⌜ r ≡ controlIn s ⌝ }
 {
     let phase = s.phase;
@@ -31,7 +33,7 @@ pub fn control_of(s: State) -> Control
 }
 
 // The counters of the tables.
-pub fn counts_of(t: Tables) -> Counts
+pub fn counts_in(t: Tables) -> Counts
     ensures { λ r. ⌜ r ≡ countsIn t ⌝ }
 {
     Counts {
@@ -42,7 +44,7 @@ pub fn counts_of(t: Tables) -> Counts
 }
 
 // The state after a call on flat visits and a tail.
-pub fn state_after(o: Outcome, visits: &[u16], tail: [u8; 1024]) -> State
+pub fn state_after(o: Outcome, visits: &[u16], tail: [u8; TAIL_LENGTH]) -> State
     requires { ⌜ length (now visits) ≡ visitsLength ⌝ }
     ensures { λ r. ⌜ r ≡ stateAfter (o .control) (tablesIn (o .counts) (now (visits .entry))) tail ⌝ }
 {
@@ -78,7 +80,7 @@ pub fn closed_state() -> State
         count: 0,
         used: 0,
     };
-    let tail = [0; 1024];
+    let tail = [0; TAIL_LENGTH];
     State {
         phase: Phase::Closed,
         fuse: Fuse::Unlimited,

@@ -4,19 +4,19 @@ use native.Mathlib.Omega.{arith}
 use mathlib.Core.Path.{_≡_, refl, sym, ap, _∙_, subst}
 use mathlib.Core.Logic.{_≢_, _⊎_, inl, inr}
 use mathlib.Core.Bool.{Bool, true, false, cond, _&&_}
-use mathlib.Core.List.{List, [], _∷_, map}
+use mathlib.Core.List.{List}
 use lib.IntN.{ℤ, pos}
 use lib.ListN.{length}
 use lib.Dec.{eqb}
 use borrow.Author.Tests.{eqb-true}
 use Rattle.book.specs.Limits.{logLength, chartsLength}
 use Rattle.book.specs.Calls.{Call, Typed}
-use Rattle.book.specs.Scopes.{Scope}
-use Rattle.book.specs.Book.{Answer, answer}
+use Rattle.book.specs.Book.{Answer, refusedBy}
 use Rattle.book.proofs.Lists.{and-l, and-r, clash}
-use Rattle.tables_model.specs.Entries.{entries, scopeIn, scopeOf}
+use Rattle.tables_model.specs.Layout.{entries}
 use Rattle.tables_model.specs.Visits.{tablesIn}
-use Rattle.state.specs.Answers.{numberAndValue, refusedBy}
+use Rattle.tables_model.proofs.EntriesBack.{entries-back}
+use Rattle.state.specs.Answers.{numberAndValue}
 use Rattle.state.specs.World.{rightLengths, isOpenPhase, cleared}
 use Rattle.state.specs.Contracts.{Answered, answered, CallPost}
 use Rattle.state.proofs.Cases.{refusal-case}
@@ -24,22 +24,24 @@ use Rattle.journal.specs.declared.Outcome.{Outcome}
 use Rattle.journal.specs.Outcomes.{outcome}
 use Rattle.undo.specs.Writing.{isRunning}
 use Rattle.calls_model.specs.Acts.{Core, core, acted, valueBy, Accepts}
-use Rattle.calls_model.specs.Perform.{coreOf, worldIn as worldLeft, settled, numberBy, numberOf, performed, accepted, Accepted}
+use Rattle.calls_model.specs.Perform.{coreOf, worldOfCore as worldLeft, settled, numberBy, numberOf, performed, acceptedBy, Accepted}
 use Rattle.calls_model.proofs.Post.{performed-post}
 use Rattle.calls.proofs.Performing.{passed, when-refused}
-use Rattle.embed_model.specs.Arrays.{Arrays, arrays, controlOf, countsIn, headOf, worldIn, Lengths}
+use Rattle.embed_model.specs.Arrays.{Arrays, arrays, inLimits, worldIn, RamLengths}
+use Rattle.embed_model.specs.Head.{controlBy, countsBy, headOf}
 use Rattle.embed_model.specs.Packed.{answerIn}
-use Rattle.embed_model.specs.Called.{answeredIn, Calls}
+use Rattle.embed_model.specs.Called.{answeredIn, CallsOfC}
 use Rattle.embed_model.proofs.Arrays.{only-stored, control-back, outcome-is, zeroed}
+use Rattle.embed.proofs.Fives.{beyond-five, within-not-five}
 
--- ── Lengths ───────────────────────────────────────────────────────────────────────────────────────────────────────────
+-- ── RamLengths ───────────────────────────────────────────────────────────────────────────────────────────────────────────
 
 -- the log or the charts have another length
-pub wrong-stored : (x : Arrays) → Lengths x → eqb (length (x .log)) logLength && eqb (length (x .charts)) chartsLength ≡ false → rightLengths (worldIn x) ≡ false
+pub wrong-stored : (x : Arrays) → RamLengths x → eqb (length (x .log)) logLength && eqb (length (x .charts)) chartsLength ≡ false → rightLengths (worldIn x) ≡ false
 wrong-stored x long e = only-stored x long ∙ e
 
 -- they have theirs
-pub right-stored : (x : Arrays) → Lengths x → eqb (length (x .log)) logLength && eqb (length (x .charts)) chartsLength ≡ true → rightLengths (worldIn x) ≡ true
+pub right-stored : (x : Arrays) → RamLengths x → eqb (length (x .log)) logLength && eqb (length (x .charts)) chartsLength ≡ true → rightLengths (worldIn x) ≡ true
 right-stored x long e = only-stored x long ∙ e
 
 pub stored-lengths : (x : Arrays) → eqb (length (x .log)) logLength && eqb (length (x .charts)) chartsLength ≡ true
@@ -49,25 +51,25 @@ stored-lengths x e =
 
 -- ── The checks ────────────────────────────────────────────────────────────────────────────────────────────────────────
 
--- an entry goes over into the struct and back
-same-entries : (ss : List Scope) → map scopeIn (map scopeOf ss) ≡ ss
-same-entries [] = refl
-same-entries (s ∷ ss) = ap (λ (r : List Scope). s ∷ r) (same-entries ss)
+-- the phase that the head says
+phase-in : (x : Arrays) → isOpenPhase (controlBy (x .head) .phase) ≡ isOpenPhase (worldIn x .state .phase)
+unfolding worldIn
+phase-in x = refl
 
 -- what the checks of a call answer
 abbrev pub numberIn : Arrays → Call → ℕ
-numberIn x k = numberBy (controlOf (x .head)) (tablesIn (countsIn (x .head)) (x .visits)) (entries (x .scopes)) k
+numberIn x k = numberBy (controlBy (x .head)) (tablesIn (countsBy (x .head)) (x .visits)) (entries (x .scopes)) k
 
 abbrev pub coreIn : Arrays → Core
-coreIn x = core (controlOf (x .head)) (countsIn (x .head)) (x .visits) (x .log) (x .charts) (x .copy) (x .tail) (x .scopes)
+coreIn x = core (controlBy (x .head)) (countsBy (x .head)) (x .visits) (x .log) (x .charts) (x .copy) (x .tail) (x .scopes)
 
 module _ (k : Call) (x : Arrays) (right : rightLengths (worldIn x) ≡ true) where
   numbered : numberOf (worldIn x) k ≡ numberIn x k
   unfolding numberOf worldIn
-  numbered = rw (right, same-entries (entries (x .scopes)))
+  numbered = rw (right, entries-back (entries (x .scopes)))
 
   -- one of them refuses it
-  pub refused : Typed k → Lengths x → (a : Answer) (r : ℕ) → answerIn r ≡ a → a ≡ refusedBy (numberIn x k) → a .number ≢ 0 → Calls k x r x
+  pub refused : Typed k → RamLengths x → (a : Answer) (r : ℕ) → answerIn r ≡ a → a ≡ refusedBy (numberIn x k) → a .number ≢ 0 → CallsOfC k x r x
   unfolding performed
   refused typed long a r says e other =
       let n = sym numbered in
@@ -76,8 +78,10 @@ module _ (k : Call) (x : Arrays) (right : rightLengths (worldIn x) ≡ true) whe
         does = rw says (subst (CallPost k (worldIn x)) (sym is) (performed-post (worldIn x) k typed));
         keeps = λ p q. refl;
         shut = λ p. refl;
-        cut = λ p. inl refl;
-        failed = λ p q. absurd (clash _ p q);
+        beyond = λ p l. (says ∙ e ∙ ap refusedBy (beyond-five (x .head) (x .visits) (entries (x .scopes)) k l), refl);
+        cut = λ o l p.
+            absurd (within-not-five (x .head) (x .visits) (entries (x .scopes)) k (phase-in x ∙ o) l (sym (ap (λ (b : Answer). b .number) (says ∙ e)) ∙ p));
+        done = λ z. absurd (other (sym (ap (λ (b : Answer). b .number) says) ∙ z));
         sized = long;
       }
 
@@ -87,11 +91,18 @@ passes k x a e z = sym (ap (λ (b : Answer). b .number) e) ∙ z
 
 -- ── An accepted call ──────────────────────────────────────────────────────────────────────────────────────────────────
 
+-- no check refuses it: the store is open, and its counters are within their limits
+is-open : (k : Call) (x : Arrays) → numberIn x k ≡ 0 → isOpenPhase (worldIn x .state .phase) ≡ true
+is-open k x free = sym (phase-in x) ∙ passed (controlBy (x .head)) (countsBy (x .head)) (x .visits) (entries (x .scopes)) k free .running
+
+is-within : (k : Call) (x : Arrays) → numberIn x k ≡ 0 → inLimits (x .head) ≡ false → ⊥
+is-within k x free l = let five = sym (beyond-five (x .head) (x .visits) (entries (x .scopes)) k l) ∙ free in omega arith
+
 -- what the work of a call asks
-pub accepts : (k : Call) (x : Arrays) → Lengths x → length (x .log) ≡ logLength → numberIn x k ≡ 0
-    → Accepts (controlOf (x .head)) (countsIn (x .head)) (length (x .log)) (length (x .copy)) (length (x .tail)) (x .visits) (x .scopes) k
+pub accepts : (k : Call) (x : Arrays) → RamLengths x → length (x .log) ≡ logLength → numberIn x k ≡ 0
+    → Accepts (controlBy (x .head)) (countsBy (x .head)) (length (x .log)) (length (x .copy)) (length (x .tail)) (x .visits) (x .scopes) k
 accepts k x long log free =
-    let p = passed (controlOf (x .head)) (countsIn (x .head)) (x .visits) (entries (x .scopes)) k free in
+    let p = passed (controlBy (x .head)) (countsBy (x .head)) (x .visits) (entries (x .scopes)) k free in
     record {
       fits = record {
         sizes = record { log-long = log; tail-long = long .tail; few = p .within .few; room = p .within .room };
@@ -112,77 +123,74 @@ zero-or-five x v = go (isRunning (x .ram .journal))
     go true = inl refl
     go false = inr refl
 
--- where it is done the store is open
-done-open : (x : Core) (v : ℤ) → settled x v .answer .number ≡ 0 → isOpenPhase (settled x v .world .state .phase) ≡ true
+-- it leaves the store open where it is done, and nowhere else
+open-done : (x : Core) (v : ℤ) → isOpenPhase (settled x v .world .state .phase) ≡ eqb (settled x v .answer .number) 0
 unfolding settled worldLeft
-done-open x v = go (isRunning (x .ram .journal)) refl
+open-done x v = go (isRunning (x .ram .journal)) refl
   where
-    go : (t : Bool) → isRunning (x .ram .journal) ≡ t → settled x v .answer .number ≡ 0 → isOpenPhase (settled x v .world .state .phase) ≡ true
-    go true e = rw e (λ z. e)
-    go false e = rw e (λ z. absurd (omega arith))
+    go : (t : Bool) → isRunning (x .ram .journal) ≡ t → isOpenPhase (settled x v .world .state .phase) ≡ eqb (settled x v .answer .number) 0
+    go true e = rw e e
+    go false e = rw e
 
 module _ (k : Call) (typed : Typed k) (x : Arrays) (right : rightLengths (worldIn x) ≡ true) (free : numberIn x k ≡ 0)
     (r : Outcome) (visits scopes tail copy log charts : List ℕ) (A : Accepted (coreIn x) k r log charts copy tail visits scopes) where
   is-performed : outcome r log charts copy tail visits scopes ≡ performed (worldIn x) k
   unfolding performed worldIn coreOf
   is-performed =
-      A .is ∙ rw (numbered k x right, free, same-entries (entries (x .scopes)))
+      A .is ∙ rw (numbered k x right, free, entries-back (entries (x .scopes)))
 
-  module _ (n : ℕ) (says : answerIn n ≡ numberAndValue (r .answer)) (head : List ℕ) (written : head ≡ headOf (r .control) (r .counts)) (counted : countsIn head ≡ r .counts)
-      (long : Lengths (arrays head visits scopes tail copy log charts)) where
+  -- it leaves the store open where it answers 0
+  open-after : (n : ℕ) (y : Arrays) → answeredIn n y ≡ outcome r log charts copy tail visits scopes → isOpenPhase (worldIn y .state .phase) ≡ eqb (answerIn n .number) 0
+  open-after n y left =
+      let z = acted (coreIn x) k in
+      let same = left ∙ A .is in
+      ap (λ (w : Answered). isOpenPhase (w .world .state .phase)) same ∙ open-done z (valueBy (coreIn x) z k) ∙
+      ap (λ (w : Answered). eqb (w .answer .number) 0) (sym same)
+
+  module _ (n : ℕ) (says : answerIn n ≡ numberAndValue (r .answer)) (head : List ℕ) (written : head ≡ headOf (r .control) (r .counts)) (counted : countsBy head ≡ r .counts)
+      (long : RamLengths (arrays head visits scopes tail copy log charts)) where
     abbrev leaves : Arrays
     leaves = arrays head visits scopes tail copy log charts
 
     left : answeredIn n leaves ≡ outcome r log charts copy tail visits scopes
     left = outcome-is r head visits scopes tail copy log charts n says (rw written (control-back (r .control) (r .counts))) counted
 
-    number-is : answerIn n .number ≡ accepted (coreIn x) k .answer .number
+    number-is : answerIn n .number ≡ acceptedBy (coreIn x) k .answer .number
     number-is = ap (λ (y : Answered). y .answer .number) (left ∙ A .is)
 
     neither : answerIn n .number ≢ 0 → answerIn n .number ≢ 5 → leaves ≡ x
     neither p q = go (zero-or-five (acted (coreIn x) k) (valueBy (coreIn x) (acted (coreIn x) k) k))
       where
-        go : (accepted (coreIn x) k .answer .number ≡ 0) ⊎ (accepted (coreIn x) k .answer .number ≡ 5) → leaves ≡ x
+        go : (acceptedBy (coreIn x) k .answer .number ≡ 0) ⊎ (acceptedBy (coreIn x) k .answer .number ≡ 5) → leaves ≡ x
         go (inl z) = absurd (p (number-is ∙ z))
         go (inr z) = absurd (q (number-is ∙ z))
 
-    shut-phase : isOpenPhase (worldIn x .state .phase) ≡ false → isOpenPhase (controlOf (x .head) .phase) ≡ false
-    unfolding worldIn
-    shut-phase e = e
-
-    five : _≡_ {A = ℕ} 5 0 → ⊥
-    five e = omega arith
-
-    -- a done call leaves the store open
-    still-open : numberAndValue (r .answer) .number ≡ 0 → isOpenPhase (worldIn leaves .state .phase) ≡ true
-    still-open z =
-        let y = acted (coreIn x) k in
-        let same = left ∙ A .is in
-        ap (λ (w : Answered). isOpenPhase (w .world .state .phase)) same ∙
-        done-open y (valueBy (coreIn x) y k) (sym (ap (λ (w : Answered). w .answer .number) same) ∙ ap (λ (b : Answer). b .number) says ∙ z)
-
-    pub accepted-call : Calls k x n leaves
+    pub accepted-call : CallsOfC k x n leaves
     accepted-call = record {
       does = subst (CallPost k (worldIn x)) (sym (left ∙ is-performed)) (performed-post (worldIn x) k typed);
       keeps = neither;
-      shut = λ p. absurd (clash _ (passed (controlOf (x .head)) (countsIn (x .head)) (x .visits) (entries (x .scopes)) k free .running) (shut-phase p));
-      cut = λ p. inr (zeroed r head visits scopes tail copy log charts (A .zero (refusal-case (r .answer) (λ z. five (sym p ∙ ap (λ (b : Answer). b .number) says ∙ z)))) written);
-      failed = λ p q. zeroed r head visits scopes tail copy log charts (A .zero (refusal-case (r .answer) (λ z. clash _ (still-open z) q))) written;
+      shut = λ p. clash _ (is-open k x free) p;
+      beyond = λ p l. absurd (is-within k x free l);
+      cut = λ o l p. zeroed r head visits scopes tail copy log charts
+          (A .zero (refusal-case (r .answer) (λ z. let five = sym p ∙ ap (λ (b : Answer). b .number) says ∙ z in omega arith))) written;
+      done = λ z. open-after n leaves left ∙ ap (λ (m : ℕ). eqb m 0) z;
       sized = long;
     }
 
 -- a read leaves the arrays as they were
 pub read-call : (k : Call) → Typed k → (x : Arrays) → rightLengths (worldIn x) ≡ true → numberIn x k ≡ 0
     → (r : Outcome) → Accepted (coreIn x) k r (x .log) (x .charts) (x .copy) (x .tail) (x .visits) (x .scopes) → (n : ℕ) → answerIn n ≡ numberAndValue (r .answer)
-    → (r .control ≡ controlOf (x .head)) × (r .counts ≡ countsIn (x .head)) → Lengths x → Calls k x n x
+    → (r .control ≡ controlBy (x .head)) × (r .counts ≡ countsBy (x .head)) → RamLengths x → CallsOfC k x n x
 read-call k typed x right free r A n says same long =
     let left : answeredIn n x ≡ outcome r (x .log) (x .charts) (x .copy) (x .tail) (x .visits) (x .scopes) =
     outcome-is r (x .head) (x .visits) (x .scopes) (x .tail) (x .copy) (x .log) (x .charts) n says (sym (same .0)) (sym (same .1)) in
+    let after = open-after k typed x right free r (x .visits) (x .scopes) (x .tail) (x .copy) (x .log) (x .charts) A n x left in
     record {
       does = subst (CallPost k (worldIn x)) (sym (left ∙ is-performed k typed x right free r (x .visits) (x .scopes) (x .tail) (x .copy) (x .log) (x .charts) A)) (performed-post (worldIn x) k typed);
       keeps = λ p q. refl;
       shut = λ p. refl;
-      cut = λ p. inl refl;
-      failed = λ p q. absurd (clash _ p q);
+      beyond = λ p l. absurd (is-within k x free l);
+      cut = λ o l p. clash _ o (after ∙ ap (λ (m : ℕ). eqb m 0) p);
+      done = λ z. after ∙ ap (λ (m : ℕ). eqb m 0) z;
       sized = long;
     }

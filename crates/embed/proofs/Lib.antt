@@ -1,6 +1,6 @@
 -- What the proofs of several functions use.
-mod Twos
 mod Answers
+mod Fives
 mod Calling
 mod Eight
 mod Restarting

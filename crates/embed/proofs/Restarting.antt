@@ -1,5 +1,5 @@
 -- A format and an opening for C keep their contracts, by what they came to on the arrays. Assumes nothing.
-use Prim.Native.Nat.{ℕ, _-_}
+use Prim.Native.Nat.{ℕ}
 use native.Mathlib.Omega.{arith}
 use mathlib.Core.Path.{_≡_, refl, sym, ap, _∙_, subst}
 use mathlib.Core.Logic.{_≢_}
@@ -28,13 +28,14 @@ use Rattle.recovery_model.specs.Openings.{noIndex, settledOpening, recoveredBy,
 use Rattle.recovery_model.specs.Answering.{Formatted, formattedAs, formatBytes, OpenOutcome}
 use Rattle.recovery_model.proofs.Formats.{format-done, format-refused}
 use Rattle.recovery_model.proofs.Post.{opens-by}
-use Rattle.embed_model.specs.Arrays.{Arrays, arrays, countsIn, headOf, worldIn, Lengths, Zero}
+use Rattle.embed_model.specs.Arrays.{Arrays, arrays, worldIn, RamLengths, Zero}
+use Rattle.embed_model.specs.Head.{countsBy, headOf}
 use Rattle.embed_model.specs.Packed.{answerIn, fuseIn}
-use Rattle.embed_model.specs.Called.{answeredIn, Formats, Opens}
+use Rattle.embed_model.specs.Called.{answeredIn, FormatsOfC, OpensOfC}
 use Rattle.embed_model.proofs.Arrays.{control-back, zero-cleared, outcome-is, zeroed}
 
 -- zeros have their lengths
-zero-long : (x : Arrays) → Zero x → Lengths x
+zero-long : (x : Arrays) → Zero x → RamLengths x
 zero-long x z = record { head = rw (z .head); visits = rw (z .visits); scopes = rw (z .scopes); tail = rw (z .tail); copy = rw (z .copy) }
 
 -- counters of zeros are within their limits
@@ -73,7 +74,7 @@ module _ (values : List ℤ) (x : Arrays) (right : rightLengths (worldIn x) ≡ 
   abbrev left : Arrays
   left = arrays (x .head) (x .visits) (x .scopes) (x .tail) (x .copy) log charts
 
-  pub refused-format : Lengths x → (n : ℕ) → answerIn n ≡ numberAndValue a → numberAndValue a .number ≢ 0 → Formats values x n left
+  pub refused-format : RamLengths x → (n : ℕ) → answerIn n ≡ numberAndValue a → numberAndValue a .number ≢ 0 → FormatsOfC values x n left
   unfolding worldIn
   refused-format long n says ne =
       let u = unchanged values (x .log) (x .charts) (λ z. ne (ap (λ (f : Formatted). f .answer .number) is ∙ z)) in
@@ -84,7 +85,7 @@ module _ (values : List ℤ) (x : Arrays) (right : rightLengths (worldIn x) ≡ 
         does = record { is = rw says (sym (format-refused values (worldIn x) right a log charts formatted ne)) };
         keeps = λ q. same;
         clears = λ z. absurd (ne (sym (ap (λ (b : book.Answer). b .number) says) ∙ z));
-        sized = subst Lengths (sym same) long;
+        sized = subst RamLengths (sym same) long;
       }
 
   module _ (zero : numberAndValue a .number ≡ 0) (r : Outcome) (answers : r .answer ≡ a) (head visits scopes tail copy : List ℕ)
@@ -92,7 +93,7 @@ module _ (values : List ℤ) (x : Arrays) (right : rightLengths (worldIn x) ≡ 
     abbrev leaves : Arrays
     leaves = arrays head visits scopes tail copy log charts
 
-    pub done-format : (n : ℕ) → answerIn n ≡ numberAndValue (r .answer) → Formats values x n leaves
+    pub done-format : (n : ℕ) → answerIn n ≡ numberAndValue (r .answer) → FormatsOfC values x n leaves
     done-format n says =
         let z = zeroed r head visits scopes tail copy log charts cleared written in
         let e = says ∙ ap numberAndValue answers in
@@ -132,11 +133,11 @@ never-one f log charts s = go (not (eqb (s .bad) 0)) (ltb (badPageBy log (s .row
 module _ (fuse : ℕ) (f : Fuse) (meant : allowance f ≡ fuseIn fuse) (x : Arrays) (right : rightLengths (worldIn x) ≡ true) (bytes : AreBytes (x .charts))
     (r : Outcome) (head visits scopes tail copy log : List ℕ)
     (O : OpenOutcome (checkedBy f (x .log) (x .charts) (scanned (x .log) noIndex)) r log (x .charts) copy tail visits scopes)
-    (written : head ≡ headOf (r .control) (r .counts)) (counted : countsIn head ≡ r .counts) where
+    (written : head ≡ headOf (r .control) (r .counts)) (counted : countsBy head ≡ r .counts) where
   abbrev opened : Arrays
   opened = arrays head visits scopes tail copy log (x .charts)
 
-  pub opening : Lengths opened → (n : ℕ) → answerIn n ≡ numberAndValue (r .answer) → Opens fuse x n opened
+  pub opening : RamLengths opened → (n : ℕ) → answerIn n ≡ numberAndValue (r .answer) → OpensOfC fuse x n opened
   unfolding opensBy worldIn
   opening long n says =
       let given : answeredIn n opened ≡ outcome r log (x .charts) copy tail visits scopes =

@@ -4,7 +4,8 @@ ghost use Prim.Native.Nat.{_%_};
 ghost use lib.ListN.{length};
 ghost use Rattle.state.specs.Answers.{numberAndValue};
 ghost use Rattle.journal.specs.Outcomes.{Bounded};
-ghost use Rattle.embed_model.specs.Arrays.{headLength, isSet, phaseBy, fuseBy, phaseNumber, kindNumber, leftNumber, controlOf, countsIn, headOf};
+ghost use Rattle.embed_model.specs.Arrays.{headLength, isSet, phaseBy, fuseBy};
+ghost use Rattle.embed_model.specs.Head.{phaseNumber, kindNumber, leftNumber, controlBy, countsBy, headOf};
 ghost use Rattle.embed_model.specs.Packed.{answerIn};
 use crate::packed::packed;
 use journal::Control;
@@ -13,13 +14,15 @@ use state::ram::Fuse;
 use state::ram::Phase;
 use tables_model::Counts;
 
-fn phase_of(x: u32) -> Phase
+pub(crate) const HEAD_LENGTH: usize = 8;
+
+fn phase_by(x: u32) -> Phase
     ensures { λ r. ⌜ r ≡ phaseBy (isSet x) ⌝ }
 {
     if x == 0 { Phase::Closed } else { Phase::Open }
 }
 
-fn fuse_of(kind: u32, left: u32) -> Fuse
+fn fuse_by(kind: u32, left: u32) -> Fuse
     ensures { λ r. ⌜ r ≡ fuseBy (isSet kind) left ⌝ }
 {
     if kind == 0 {
@@ -46,10 +49,10 @@ fn begun_of(x: u32) -> u16
 // Where the journal stands.
 pub(crate) fn control_in(head: &[u32]) -> Control
     requires { ⌜ length (now head) ≡ headLength ⌝ }
-    ensures { λ r. ⌜ r ≡ controlOf (now (head .entry)) ⌝ }
+    ensures { λ r. ⌜ r ≡ controlBy (now (head .entry)) ⌝ }
 {
-    let phase = phase_of(head[0]);
-    let fuse = fuse_of(head[1], head[2]);
+    let phase = phase_by(head[0]);
+    let fuse = fuse_by(head[1], head[2]);
     Control {
         phase: phase,
         fuse: fuse,
@@ -61,7 +64,7 @@ pub(crate) fn control_in(head: &[u32]) -> Control
 // The counters of the tables.
 pub(crate) fn counts_in(head: &[u32]) -> Counts
     requires { ⌜ length (now head) ≡ headLength ⌝ }
-    ensures { λ r. ⌜ r ≡ countsIn (now (head .entry)) ⌝ }
+    ensures { λ r. ⌜ r ≡ countsBy (now (head .entry)) ⌝ }
 {
     Counts {
         begun: begun_of(head[5]),
@@ -99,7 +102,7 @@ fn left_number(f: Fuse) -> u32
 
 fn put_head(head: &mut [u32], c: Control, t: Counts)
     requires { ⌜ (length (now head) ≡ headLength) × Bounded c t ⌝ }
-    ensures { λ _. ⌜ (now (head .exit) ≡ headOf c t) × (countsIn (now (head .exit)) ≡ t) ⌝ }
+    ensures { λ _. ⌜ (now (head .exit) ≡ headOf c t) × (countsBy (now (head .exit)) ≡ t) ⌝ }
 {
     let phase = c.phase;
     let fuse = c.fuse;
@@ -116,7 +119,7 @@ fn put_head(head: &mut [u32], c: Control, t: Counts)
 // What a call came to is written into the head, and its answer given back.
 pub(crate) fn finish(head: &mut [u32], r: Outcome) -> u64
     requires { ⌜ (length (now head) ≡ headLength) × Bounded (r .control) (r .counts) ⌝ }
-    ensures { λ n. ⌜ (answerIn n ≡ numberAndValue (r .answer)) × (now (head .exit) ≡ headOf (r .control) (r .counts)) × (countsIn (now (head .exit)) ≡ r .counts) ⌝ }
+    ensures { λ n. ⌜ (answerIn n ≡ numberAndValue (r .answer)) × (now (head .exit) ≡ headOf (r .control) (r .counts)) × (countsBy (now (head .exit)) ≡ r .counts) ⌝ }
 {
     let c = r.control;
     let t = r.counts;

@@ -7,20 +7,25 @@ mod run; // the calls of an open store on the arrays
 
 ghost use Rattle.book.specs.Calls.{Call};
 ghost use Rattle.embed_model.specs.Arrays.{arrays};
-ghost use Rattle.embed_model.specs.Called.{Formats, Opens, Calls};
+ghost use Rattle.embed_model.specs.Called.{FormatsOfC, OpensOfC, CallsOfC};
+use head::HEAD_LENGTH;
+use rows::limits::CHARTS_LENGTH;
+use rows::limits::TAIL_LENGTH;
+use tables::layout::FLAT_LENGTH;
+use tables::layout::VISITS_LENGTH;
 
 #[no_mangle]
 pub extern "C" fn chart_format_on(
-    head: &mut [u32; 8],
-    visits: &mut [u16; 32],
-    scopes: &mut [u16; 448],
-    tail: &mut [u8; 1024],
-    copy: &mut [u8; 1024],
+    head: &mut [u32; HEAD_LENGTH],
+    visits: &mut [u16; VISITS_LENGTH],
+    scopes: &mut [u16; FLAT_LENGTH],
+    tail: &mut [u8; TAIL_LENGTH],
+    copy: &mut [u8; CHARTS_LENGTH],
     log: &mut [u8],
     charts: &mut [u8],
     cells: &[i32],
 ) -> u64
-    ensures { λ r. ⌜ Formats (now (cells .entry)) (arrays (now (head .entry)) (now (visits .entry)) (now (scopes .entry)) (now (tail .entry)) (now (copy .entry)) (now (log .entry)) (now (charts .entry))) r
+    ensures { λ r. ⌜ FormatsOfC (now (cells .entry)) (arrays (now (head .entry)) (now (visits .entry)) (now (scopes .entry)) (now (tail .entry)) (now (copy .entry)) (now (log .entry)) (now (charts .entry))) r
         (arrays (now (head .exit)) (now (visits .exit)) (now (scopes .exit)) (now (tail .exit)) (now (copy .exit)) (now (log .exit)) (now (charts .exit))) ⌝ }
 {
     opening::format(head, visits, scopes, tail, copy, log, charts, cells)
@@ -28,16 +33,16 @@ pub extern "C" fn chart_format_on(
 
 #[no_mangle]
 pub extern "C" fn chart_open_on(
-    head: &mut [u32; 8],
-    visits: &mut [u16; 32],
-    scopes: &mut [u16; 448],
-    tail: &mut [u8; 1024],
-    copy: &mut [u8; 1024],
+    head: &mut [u32; HEAD_LENGTH],
+    visits: &mut [u16; VISITS_LENGTH],
+    scopes: &mut [u16; FLAT_LENGTH],
+    tail: &mut [u8; TAIL_LENGTH],
+    copy: &mut [u8; CHARTS_LENGTH],
     log: &mut [u8],
     charts: &mut [u8],
     fuse: u32,
 ) -> u64
-    ensures { λ r. ⌜ Opens fuse (arrays (now (head .entry)) (now (visits .entry)) (now (scopes .entry)) (now (tail .entry)) (now (copy .entry)) (now (log .entry)) (now (charts .entry))) r
+    ensures { λ r. ⌜ OpensOfC fuse (arrays (now (head .entry)) (now (visits .entry)) (now (scopes .entry)) (now (tail .entry)) (now (copy .entry)) (now (log .entry)) (now (charts .entry))) r
         (arrays (now (head .exit)) (now (visits .exit)) (now (scopes .exit)) (now (tail .exit)) (now (copy .exit)) (now (log .exit)) (now (charts .exit))) ⌝ }
 {
     opening::open(head, visits, scopes, tail, copy, log, charts, fuse)
@@ -45,15 +50,15 @@ pub extern "C" fn chart_open_on(
 
 #[no_mangle]
 pub extern "C" fn chart_begin_on(
-    head: &mut [u32; 8],
-    visits: &mut [u16; 32],
-    scopes: &mut [u16; 448],
-    tail: &mut [u8; 1024],
-    copy: &mut [u8; 1024],
+    head: &mut [u32; HEAD_LENGTH],
+    visits: &mut [u16; VISITS_LENGTH],
+    scopes: &mut [u16; FLAT_LENGTH],
+    tail: &mut [u8; TAIL_LENGTH],
+    copy: &mut [u8; CHARTS_LENGTH],
     log: &mut [u8],
     charts: &mut [u8],
 ) -> u64
-    ensures { λ r. ⌜ Calls Call.begin (arrays (now (head .entry)) (now (visits .entry)) (now (scopes .entry)) (now (tail .entry)) (now (copy .entry)) (now (log .entry)) (now (charts .entry))) r
+    ensures { λ r. ⌜ CallsOfC Call.begin (arrays (now (head .entry)) (now (visits .entry)) (now (scopes .entry)) (now (tail .entry)) (now (copy .entry)) (now (log .entry)) (now (charts .entry))) r
         (arrays (now (head .exit)) (now (visits .exit)) (now (scopes .exit)) (now (tail .exit)) (now (copy .exit)) (now (log .exit)) (now (charts .exit))) ⌝ }
 {
     run::begin(head, visits, scopes, tail, copy, log, charts)
@@ -61,18 +66,18 @@ pub extern "C" fn chart_begin_on(
 
 #[no_mangle]
 pub extern "C" fn chart_change_on(
-    head: &mut [u32; 8],
-    visits: &mut [u16; 32],
-    scopes: &mut [u16; 448],
-    tail: &mut [u8; 1024],
-    copy: &mut [u8; 1024],
+    head: &mut [u32; HEAD_LENGTH],
+    visits: &mut [u16; VISITS_LENGTH],
+    scopes: &mut [u16; FLAT_LENGTH],
+    tail: &mut [u8; TAIL_LENGTH],
+    copy: &mut [u8; CHARTS_LENGTH],
     log: &mut [u8],
     charts: &mut [u8],
     visit: u16,
     cell: u8,
     amount: i16,
 ) -> u64
-    ensures { λ r. ⌜ Calls (Call.change visit cell amount) (arrays (now (head .entry)) (now (visits .entry)) (now (scopes .entry)) (now (tail .entry)) (now (copy .entry)) (now (log .entry)) (now (charts .entry))) r
+    ensures { λ r. ⌜ CallsOfC (Call.change visit cell amount) (arrays (now (head .entry)) (now (visits .entry)) (now (scopes .entry)) (now (tail .entry)) (now (copy .entry)) (now (log .entry)) (now (charts .entry))) r
         (arrays (now (head .exit)) (now (visits .exit)) (now (scopes .exit)) (now (tail .exit)) (now (copy .exit)) (now (log .exit)) (now (charts .exit))) ⌝ }
 {
     run::change(
@@ -91,18 +96,18 @@ pub extern "C" fn chart_change_on(
 
 #[no_mangle]
 pub extern "C" fn chart_hand_over_on(
-    head: &mut [u32; 8],
-    visits: &mut [u16; 32],
-    scopes: &mut [u16; 448],
-    tail: &mut [u8; 1024],
-    copy: &mut [u8; 1024],
+    head: &mut [u32; HEAD_LENGTH],
+    visits: &mut [u16; VISITS_LENGTH],
+    scopes: &mut [u16; FLAT_LENGTH],
+    tail: &mut [u8; TAIL_LENGTH],
+    copy: &mut [u8; CHARTS_LENGTH],
     log: &mut [u8],
     charts: &mut [u8],
     giver: u16,
     receiver: u16,
     cell: u8,
 ) -> u64
-    ensures { λ r. ⌜ Calls (Call.handOver giver receiver cell) (arrays (now (head .entry)) (now (visits .entry)) (now (scopes .entry)) (now (tail .entry)) (now (copy .entry)) (now (log .entry)) (now (charts .entry))) r
+    ensures { λ r. ⌜ CallsOfC (Call.handOver giver receiver cell) (arrays (now (head .entry)) (now (visits .entry)) (now (scopes .entry)) (now (tail .entry)) (now (copy .entry)) (now (log .entry)) (now (charts .entry))) r
         (arrays (now (head .exit)) (now (visits .exit)) (now (scopes .exit)) (now (tail .exit)) (now (copy .exit)) (now (log .exit)) (now (charts .exit))) ⌝ }
 {
     run::hand_over(
@@ -121,16 +126,16 @@ pub extern "C" fn chart_hand_over_on(
 
 #[no_mangle]
 pub extern "C" fn chart_commit_on(
-    head: &mut [u32; 8],
-    visits: &mut [u16; 32],
-    scopes: &mut [u16; 448],
-    tail: &mut [u8; 1024],
-    copy: &mut [u8; 1024],
+    head: &mut [u32; HEAD_LENGTH],
+    visits: &mut [u16; VISITS_LENGTH],
+    scopes: &mut [u16; FLAT_LENGTH],
+    tail: &mut [u8; TAIL_LENGTH],
+    copy: &mut [u8; CHARTS_LENGTH],
     log: &mut [u8],
     charts: &mut [u8],
     visit: u16,
 ) -> u64
-    ensures { λ r. ⌜ Calls (Call.commit visit) (arrays (now (head .entry)) (now (visits .entry)) (now (scopes .entry)) (now (tail .entry)) (now (copy .entry)) (now (log .entry)) (now (charts .entry))) r
+    ensures { λ r. ⌜ CallsOfC (Call.commit visit) (arrays (now (head .entry)) (now (visits .entry)) (now (scopes .entry)) (now (tail .entry)) (now (copy .entry)) (now (log .entry)) (now (charts .entry))) r
         (arrays (now (head .exit)) (now (visits .exit)) (now (scopes .exit)) (now (tail .exit)) (now (copy .exit)) (now (log .exit)) (now (charts .exit))) ⌝ }
 {
     run::commit(head, visits, scopes, tail, copy, log, charts, visit)
@@ -138,16 +143,16 @@ pub extern "C" fn chart_commit_on(
 
 #[no_mangle]
 pub extern "C" fn chart_abort_on(
-    head: &mut [u32; 8],
-    visits: &mut [u16; 32],
-    scopes: &mut [u16; 448],
-    tail: &mut [u8; 1024],
-    copy: &mut [u8; 1024],
+    head: &mut [u32; HEAD_LENGTH],
+    visits: &mut [u16; VISITS_LENGTH],
+    scopes: &mut [u16; FLAT_LENGTH],
+    tail: &mut [u8; TAIL_LENGTH],
+    copy: &mut [u8; CHARTS_LENGTH],
     log: &mut [u8],
     charts: &mut [u8],
     visit: u16,
 ) -> u64
-    ensures { λ r. ⌜ Calls (Call.abort visit) (arrays (now (head .entry)) (now (visits .entry)) (now (scopes .entry)) (now (tail .entry)) (now (copy .entry)) (now (log .entry)) (now (charts .entry))) r
+    ensures { λ r. ⌜ CallsOfC (Call.abort visit) (arrays (now (head .entry)) (now (visits .entry)) (now (scopes .entry)) (now (tail .entry)) (now (copy .entry)) (now (log .entry)) (now (charts .entry))) r
         (arrays (now (head .exit)) (now (visits .exit)) (now (scopes .exit)) (now (tail .exit)) (now (copy .exit)) (now (log .exit)) (now (charts .exit))) ⌝ }
 {
     run::abort(head, visits, scopes, tail, copy, log, charts, visit)
@@ -155,15 +160,15 @@ pub extern "C" fn chart_abort_on(
 
 #[no_mangle]
 pub extern "C" fn chart_force_on(
-    head: &mut [u32; 8],
-    visits: &mut [u16; 32],
-    scopes: &mut [u16; 448],
-    tail: &mut [u8; 1024],
-    copy: &mut [u8; 1024],
+    head: &mut [u32; HEAD_LENGTH],
+    visits: &mut [u16; VISITS_LENGTH],
+    scopes: &mut [u16; FLAT_LENGTH],
+    tail: &mut [u8; TAIL_LENGTH],
+    copy: &mut [u8; CHARTS_LENGTH],
     log: &mut [u8],
     charts: &mut [u8],
 ) -> u64
-    ensures { λ r. ⌜ Calls Call.force (arrays (now (head .entry)) (now (visits .entry)) (now (scopes .entry)) (now (tail .entry)) (now (copy .entry)) (now (log .entry)) (now (charts .entry))) r
+    ensures { λ r. ⌜ CallsOfC Call.force (arrays (now (head .entry)) (now (visits .entry)) (now (scopes .entry)) (now (tail .entry)) (now (copy .entry)) (now (log .entry)) (now (charts .entry))) r
         (arrays (now (head .exit)) (now (visits .exit)) (now (scopes .exit)) (now (tail .exit)) (now (copy .exit)) (now (log .exit)) (now (charts .exit))) ⌝ }
 {
     run::force(head, visits, scopes, tail, copy, log, charts)
@@ -171,16 +176,16 @@ pub extern "C" fn chart_force_on(
 
 #[no_mangle]
 pub extern "C" fn chart_flush_on(
-    head: &mut [u32; 8],
-    visits: &mut [u16; 32],
-    scopes: &mut [u16; 448],
-    tail: &mut [u8; 1024],
-    copy: &mut [u8; 1024],
+    head: &mut [u32; HEAD_LENGTH],
+    visits: &mut [u16; VISITS_LENGTH],
+    scopes: &mut [u16; FLAT_LENGTH],
+    tail: &mut [u8; TAIL_LENGTH],
+    copy: &mut [u8; CHARTS_LENGTH],
     log: &mut [u8],
     charts: &mut [u8],
     page: u8,
 ) -> u64
-    ensures { λ r. ⌜ Calls (Call.flush page) (arrays (now (head .entry)) (now (visits .entry)) (now (scopes .entry)) (now (tail .entry)) (now (copy .entry)) (now (log .entry)) (now (charts .entry))) r
+    ensures { λ r. ⌜ CallsOfC (Call.flush page) (arrays (now (head .entry)) (now (visits .entry)) (now (scopes .entry)) (now (tail .entry)) (now (copy .entry)) (now (log .entry)) (now (charts .entry))) r
         (arrays (now (head .exit)) (now (visits .exit)) (now (scopes .exit)) (now (tail .exit)) (now (copy .exit)) (now (log .exit)) (now (charts .exit))) ⌝ }
 {
     run::flush(head, visits, scopes, tail, copy, log, charts, page)
@@ -188,16 +193,16 @@ pub extern "C" fn chart_flush_on(
 
 #[no_mangle]
 pub extern "C" fn chart_read_on(
-    head: &mut [u32; 8],
-    visits: &mut [u16; 32],
-    scopes: &mut [u16; 448],
-    tail: &mut [u8; 1024],
-    copy: &mut [u8; 1024],
+    head: &mut [u32; HEAD_LENGTH],
+    visits: &mut [u16; VISITS_LENGTH],
+    scopes: &mut [u16; FLAT_LENGTH],
+    tail: &mut [u8; TAIL_LENGTH],
+    copy: &mut [u8; CHARTS_LENGTH],
     log: &mut [u8],
     charts: &mut [u8],
     cell: u8,
 ) -> u64
-    ensures { λ r. ⌜ Calls (Call.read cell) (arrays (now (head .entry)) (now (visits .entry)) (now (scopes .entry)) (now (tail .entry)) (now (copy .entry)) (now (log .entry)) (now (charts .entry))) r
+    ensures { λ r. ⌜ CallsOfC (Call.read cell) (arrays (now (head .entry)) (now (visits .entry)) (now (scopes .entry)) (now (tail .entry)) (now (copy .entry)) (now (log .entry)) (now (charts .entry))) r
         (arrays (now (head .exit)) (now (visits .exit)) (now (scopes .exit)) (now (tail .exit)) (now (copy .exit)) (now (log .exit)) (now (charts .exit))) ⌝ }
 {
     run::read(head, visits, scopes, tail, copy, log, charts, cell)

@@ -1,8 +1,8 @@
 // Format and open on the arrays, lent as slices. Neither takes anything from the arrays of RAM.
 ghost use mathlib.Core.Path.{_≡_};
 ghost use Rattle.state.specs.World.{allowance};
-ghost use Rattle.embed_model.specs.Arrays.{arrays, Lengths};
-ghost use Rattle.embed_model.specs.Called.{Formats, Opens};
+ghost use Rattle.embed_model.specs.Arrays.{arrays, RamLengths};
+ghost use Rattle.embed_model.specs.Called.{FormatsOfC, OpensOfC};
 ghost use Rattle.embed_model.specs.Packed.{fuseIn};
 use crate::head::finish;
 use crate::packed::packed;
@@ -22,8 +22,8 @@ pub(crate) fn format(
     charts: &mut [u8],
     cells: &[i32],
 ) -> u64
-    requires { ⌜ Lengths (arrays (now head) (now visits) (now scopes) (now tail) (now copy) (now log) (now charts)) ⌝ }
-    ensures { λ r. ⌜ Formats (now (cells .entry))
+    requires { ⌜ RamLengths (arrays (now head) (now visits) (now scopes) (now tail) (now copy) (now log) (now charts)) ⌝ }
+    ensures { λ r. ⌜ FormatsOfC (now (cells .entry))
         (arrays (now (head .entry)) (now (visits .entry)) (now (scopes .entry)) (now (tail .entry)) (now (copy .entry)) (now (log .entry)) (now (charts .entry))) r
         (arrays (now (head .exit)) (now (visits .exit)) (now (scopes .exit)) (now (tail .exit)) (now (copy .exit)) (now (log .exit)) (now (charts .exit))) ⌝ }
 {
@@ -58,8 +58,8 @@ pub(crate) fn open(
     charts: &[u8],
     fuse: u32,
 ) -> u64
-    requires { ⌜ Lengths (arrays (now head) (now visits) (now scopes) (now tail) (now copy) (now log) (now charts)) ⌝ }
-    ensures { λ r. ⌜ Opens fuse
+    requires { ⌜ RamLengths (arrays (now head) (now visits) (now scopes) (now tail) (now copy) (now log) (now charts)) ⌝ }
+    ensures { λ r. ⌜ OpensOfC fuse
         (arrays (now (head .entry)) (now (visits .entry)) (now (scopes .entry)) (now (tail .entry)) (now (copy .entry)) (now (log .entry)) (now (charts .entry))) r
         (arrays (now (head .exit)) (now (visits .exit)) (now (scopes .exit)) (now (tail .exit)) (now (copy .exit)) (now (log .exit)) (now (charts .entry))) ⌝ }
 {

@@ -1,8 +1,7 @@
 // The calls of an open store on the arrays, lent as slices: every check, then the call, in place. Nothing is written where a check refuses.
-ghost use mathlib.Core.Path.{_≡_};
 ghost use Rattle.book.specs.Calls.{Call};
-ghost use Rattle.embed_model.specs.Arrays.{arrays, Lengths};
-ghost use Rattle.embed_model.specs.Called.{Calls};
+ghost use Rattle.embed_model.specs.Arrays.{arrays, RamLengths};
+ghost use Rattle.embed_model.specs.Called.{CallsOfC};
 use crate::head::control_in;
 use crate::head::counts_in;
 use crate::head::finish;
@@ -37,8 +36,8 @@ pub(crate) fn begin(
     log: &mut [u8],
     charts: &mut [u8],
 ) -> u64
-    requires { ⌜ Lengths (arrays (now head) (now visits) (now scopes) (now tail) (now copy) (now log) (now charts)) ⌝ }
-    ensures { λ r. ⌜ Calls Call.begin (arrays (now (head .entry)) (now (visits .entry)) (now (scopes .entry)) (now (tail .entry)) (now (copy .entry)) (now (log .entry)) (now (charts .entry))) r
+    requires { ⌜ RamLengths (arrays (now head) (now visits) (now scopes) (now tail) (now copy) (now log) (now charts)) ⌝ }
+    ensures { λ r. ⌜ CallsOfC Call.begin (arrays (now (head .entry)) (now (visits .entry)) (now (scopes .entry)) (now (tail .entry)) (now (copy .entry)) (now (log .entry)) (now (charts .entry))) r
         (arrays (now (head .exit)) (now (visits .exit)) (now (scopes .exit)) (now (tail .exit)) (now (copy .exit)) (now (log .exit)) (now (charts .exit))) ⌝ }
 {
     if !stored_fit(log.len(), charts.len()) {
@@ -66,8 +65,8 @@ pub(crate) fn change(
     cell: u8,
     amount: i16,
 ) -> u64
-    requires { ⌜ Lengths (arrays (now head) (now visits) (now scopes) (now tail) (now copy) (now log) (now charts)) ⌝ }
-    ensures { λ r. ⌜ Calls (Call.change visit cell amount) (arrays (now (head .entry)) (now (visits .entry)) (now (scopes .entry)) (now (tail .entry)) (now (copy .entry)) (now (log .entry)) (now (charts .entry))) r
+    requires { ⌜ RamLengths (arrays (now head) (now visits) (now scopes) (now tail) (now copy) (now log) (now charts)) ⌝ }
+    ensures { λ r. ⌜ CallsOfC (Call.change visit cell amount) (arrays (now (head .entry)) (now (visits .entry)) (now (scopes .entry)) (now (tail .entry)) (now (copy .entry)) (now (log .entry)) (now (charts .entry))) r
         (arrays (now (head .exit)) (now (visits .exit)) (now (scopes .exit)) (now (tail .exit)) (now (copy .exit)) (now (log .exit)) (now (charts .exit))) ⌝ }
 {
     if !stored_fit(log.len(), charts.len()) {
@@ -97,8 +96,8 @@ pub(crate) fn hand_over(
     receiver: u16,
     cell: u8,
 ) -> u64
-    requires { ⌜ Lengths (arrays (now head) (now visits) (now scopes) (now tail) (now copy) (now log) (now charts)) ⌝ }
-    ensures { λ r. ⌜ Calls (Call.handOver giver receiver cell) (arrays (now (head .entry)) (now (visits .entry)) (now (scopes .entry)) (now (tail .entry)) (now (copy .entry)) (now (log .entry)) (now (charts .entry))) r
+    requires { ⌜ RamLengths (arrays (now head) (now visits) (now scopes) (now tail) (now copy) (now log) (now charts)) ⌝ }
+    ensures { λ r. ⌜ CallsOfC (Call.handOver giver receiver cell) (arrays (now (head .entry)) (now (visits .entry)) (now (scopes .entry)) (now (tail .entry)) (now (copy .entry)) (now (log .entry)) (now (charts .entry))) r
         (arrays (now (head .exit)) (now (visits .exit)) (now (scopes .exit)) (now (tail .exit)) (now (copy .exit)) (now (log .exit)) (now (charts .exit))) ⌝ }
 {
     if !stored_fit(log.len(), charts.len()) {
@@ -127,8 +126,8 @@ pub(crate) fn commit(
     charts: &mut [u8],
     visit: u16,
 ) -> u64
-    requires { ⌜ Lengths (arrays (now head) (now visits) (now scopes) (now tail) (now copy) (now log) (now charts)) ⌝ }
-    ensures { λ r. ⌜ Calls (Call.commit visit) (arrays (now (head .entry)) (now (visits .entry)) (now (scopes .entry)) (now (tail .entry)) (now (copy .entry)) (now (log .entry)) (now (charts .entry))) r
+    requires { ⌜ RamLengths (arrays (now head) (now visits) (now scopes) (now tail) (now copy) (now log) (now charts)) ⌝ }
+    ensures { λ r. ⌜ CallsOfC (Call.commit visit) (arrays (now (head .entry)) (now (visits .entry)) (now (scopes .entry)) (now (tail .entry)) (now (copy .entry)) (now (log .entry)) (now (charts .entry))) r
         (arrays (now (head .exit)) (now (visits .exit)) (now (scopes .exit)) (now (tail .exit)) (now (copy .exit)) (now (log .exit)) (now (charts .exit))) ⌝ }
 {
     if !stored_fit(log.len(), charts.len()) {
@@ -155,8 +154,8 @@ pub(crate) fn abort(
     charts: &mut [u8],
     visit: u16,
 ) -> u64
-    requires { ⌜ Lengths (arrays (now head) (now visits) (now scopes) (now tail) (now copy) (now log) (now charts)) ⌝ }
-    ensures { λ r. ⌜ Calls (Call.abort visit) (arrays (now (head .entry)) (now (visits .entry)) (now (scopes .entry)) (now (tail .entry)) (now (copy .entry)) (now (log .entry)) (now (charts .entry))) r
+    requires { ⌜ RamLengths (arrays (now head) (now visits) (now scopes) (now tail) (now copy) (now log) (now charts)) ⌝ }
+    ensures { λ r. ⌜ CallsOfC (Call.abort visit) (arrays (now (head .entry)) (now (visits .entry)) (now (scopes .entry)) (now (tail .entry)) (now (copy .entry)) (now (log .entry)) (now (charts .entry))) r
         (arrays (now (head .exit)) (now (visits .exit)) (now (scopes .exit)) (now (tail .exit)) (now (copy .exit)) (now (log .exit)) (now (charts .exit))) ⌝ }
 {
     if !stored_fit(log.len(), charts.len()) {
@@ -182,8 +181,8 @@ pub(crate) fn force(
     log: &mut [u8],
     charts: &mut [u8],
 ) -> u64
-    requires { ⌜ Lengths (arrays (now head) (now visits) (now scopes) (now tail) (now copy) (now log) (now charts)) ⌝ }
-    ensures { λ r. ⌜ Calls Call.force (arrays (now (head .entry)) (now (visits .entry)) (now (scopes .entry)) (now (tail .entry)) (now (copy .entry)) (now (log .entry)) (now (charts .entry))) r
+    requires { ⌜ RamLengths (arrays (now head) (now visits) (now scopes) (now tail) (now copy) (now log) (now charts)) ⌝ }
+    ensures { λ r. ⌜ CallsOfC Call.force (arrays (now (head .entry)) (now (visits .entry)) (now (scopes .entry)) (now (tail .entry)) (now (copy .entry)) (now (log .entry)) (now (charts .entry))) r
         (arrays (now (head .exit)) (now (visits .exit)) (now (scopes .exit)) (now (tail .exit)) (now (copy .exit)) (now (log .exit)) (now (charts .exit))) ⌝ }
 {
     if !stored_fit(log.len(), charts.len()) {
@@ -209,8 +208,8 @@ pub(crate) fn flush(
     charts: &mut [u8],
     page: u8,
 ) -> u64
-    requires { ⌜ Lengths (arrays (now head) (now visits) (now scopes) (now tail) (now copy) (now log) (now charts)) ⌝ }
-    ensures { λ r. ⌜ Calls (Call.flush page) (arrays (now (head .entry)) (now (visits .entry)) (now (scopes .entry)) (now (tail .entry)) (now (copy .entry)) (now (log .entry)) (now (charts .entry))) r
+    requires { ⌜ RamLengths (arrays (now head) (now visits) (now scopes) (now tail) (now copy) (now log) (now charts)) ⌝ }
+    ensures { λ r. ⌜ CallsOfC (Call.flush page) (arrays (now (head .entry)) (now (visits .entry)) (now (scopes .entry)) (now (tail .entry)) (now (copy .entry)) (now (log .entry)) (now (charts .entry))) r
         (arrays (now (head .exit)) (now (visits .exit)) (now (scopes .exit)) (now (tail .exit)) (now (copy .exit)) (now (log .exit)) (now (charts .exit))) ⌝ }
 {
     if !stored_fit(log.len(), charts.len()) {
@@ -237,8 +236,8 @@ pub(crate) fn read(
     charts: &mut [u8],
     cell: u8,
 ) -> u64
-    requires { ⌜ Lengths (arrays (now head) (now visits) (now scopes) (now tail) (now copy) (now log) (now charts)) ⌝ }
-    ensures { λ r. ⌜ Calls (Call.read cell) (arrays (now (head .entry)) (now (visits .entry)) (now (scopes .entry)) (now (tail .entry)) (now (copy .entry)) (now (log .entry)) (now (charts .entry))) r
+    requires { ⌜ RamLengths (arrays (now head) (now visits) (now scopes) (now tail) (now copy) (now log) (now charts)) ⌝ }
+    ensures { λ r. ⌜ CallsOfC (Call.read cell) (arrays (now (head .entry)) (now (visits .entry)) (now (scopes .entry)) (now (tail .entry)) (now (copy .entry)) (now (log .entry)) (now (charts .entry))) r
         (arrays (now (head .exit)) (now (visits .exit)) (now (scopes .exit)) (now (tail .exit)) (now (copy .exit)) (now (log .exit)) (now (charts .exit))) ⌝ }
 {
     if !stored_fit(log.len(), charts.len()) {

@@ -9,8 +9,9 @@ use lib.ListN.{length, replicate}
 use lib.Dec.{eqb}
 use borrow.Author.Tests.{eq-eqb}
 use Rattle.book.specs.Limits.{logLength, chartsLength, scopeLimit}
-use Rattle.tables_model.specs.Entries.{entries, scopeOf}
-use Rattle.tables_model.specs.Visits.{actives, tablesIn}
+use Rattle.tables_model.specs.Layout.{entries, actives}
+use Rattle.tables_model.specs.Meaning.{scopeOf}
+use Rattle.tables_model.specs.Visits.{tablesIn}
 use Rattle.tables_model.specs.declared.Counts.{Counts}
 use Rattle.state.specs.declared.ram.Phase.the-variants.{Open, Closed}
 use Rattle.state.specs.declared.ram.Fuse.the-variants.{Unlimited, Left}
@@ -21,7 +22,8 @@ use Rattle.state.specs.Answers.{numberAndValue}
 use Rattle.journal.specs.declared.Control.{Control}
 use Rattle.journal.specs.declared.Outcome.{Outcome}
 use Rattle.journal.specs.Outcomes.{stateAfter, outcome, Zeroed}
-use Rattle.embed_model.specs.Arrays.{Arrays, arrays, headLength, isSet, phaseBy, fuseBy, controlOf, countsIn, phaseNumber, kindNumber, leftNumber, headOf, worldIn, Lengths, Zero}
+use Rattle.embed_model.specs.Arrays.{Arrays, arrays, headLength, isSet, phaseBy, fuseBy, worldIn, RamLengths, Zero}
+use Rattle.embed_model.specs.Head.{controlBy, countsBy, phaseNumber, kindNumber, leftNumber, headOf}
 use Rattle.embed_model.specs.Packed.{answerIn}
 use Rattle.embed_model.specs.Called.{answeredIn}
 
@@ -53,10 +55,10 @@ fuse-back : (f : Fuse) → fuseBy (isSet (kindNumber f)) (leftNumber f) ≡ f
 fuse-back (Left n) = refl
 fuse-back Unlimited = refl
 
-pub control-back : (c : Control) (t : Counts) → controlOf (headOf c t) ≡ c
+pub control-back : (c : Control) (t : Counts) → controlBy (headOf c t) ≡ c
 control-back c t = λ i. record { phase = phase-back (c .phase) i; fuse = fuse-back (c .fuse) i; stored = c .stored; waiting = c .waiting }
 
-pub counts-back : (c : Control) (t : Counts) → t .begun < 65536 → countsIn (headOf c t) ≡ t
+pub counts-back : (c : Control) (t : Counts) → t .begun < 65536 → countsBy (headOf c t) ≡ t
 counts-back c t h = let e : t .begun % 65536 ≡ t .begun = omega arith in λ i. record { begun = e i; count = t .count; used = t .used }
 
 -- the scope table has 64 entries, whatever the numbers are
@@ -65,7 +67,7 @@ unfolding worldIn entries
 table-long x = refl
 
 -- so that only log and charts can be of a wrong length
-pub only-stored : (x : Arrays) → Lengths x → rightLengths (worldIn x) ≡ (eqb (length (x .log)) logLength && eqb (length (x .charts)) chartsLength)
+pub only-stored : (x : Arrays) → RamLengths x → rightLengths (worldIn x) ≡ (eqb (length (x .log)) logLength && eqb (length (x .charts)) chartsLength)
 unfolding worldIn entries
 only-stored x l = rw (eq-eqb (length (x .copy)) chartsLength (l .copy)) (go _)
   where
@@ -82,7 +84,7 @@ zero-cleared x z = rw (z .head, z .visits, z .scopes, z .tail, z .copy)
 
 module _ (r : Outcome) (head visits scopes tail copy log charts : List ℕ) where
   -- the head that a call writes says where the journal stands and what the counters are: then the arrays are its outcome
-  pub outcome-is : (n : ℕ) → answerIn n ≡ numberAndValue (r .answer) → controlOf head ≡ r .control → countsIn head ≡ r .counts
+  pub outcome-is : (n : ℕ) → answerIn n ≡ numberAndValue (r .answer) → controlBy head ≡ r .control → countsBy head ≡ r .counts
       → answeredIn n (arrays head visits scopes tail copy log charts) ≡ outcome r log charts copy tail visits scopes
   unfolding worldIn
   outcome-is n a c t =

@@ -9,11 +9,11 @@ use borrow.Author.Tests.{eq-eqb}
 use Rattle.book.specs.Limits.{chartsLength, scopeLimit}
 use Rattle.state.specs.World.{World}
 use Rattle.sessions.specs.Host.{Step, opened, called, steps, back, worldAfter, GetsStored, GetsRam, callsFollow, HostDoes, Host, Contracts}
-use Rattle.sessions.specs.Demand.{Demand3}
-use Rattle.sessions.proofs.Demand.{demand-3}
+use Rattle.sessions.specs.Demand3.{Demand3}
+use Rattle.sessions.proofs.Demand3.{demand-3}
 use Rattle.embed_model.specs.Arrays.{Arrays, worldIn}
 use Rattle.embed_model.specs.Called.{answeredIn}
-use Rattle.embed_model.specs.Host.{CallMade, SessionMade, StepMade, opens, calls, stepsMade, openingOf, calledOf, sessionOf, stepOf, afterStep, LendsStored, LendsRam, HostLends, HostOfC}
+use Rattle.embed_model.specs.Host.{CallMade, SessionMade, StepMade, opens, calls, stepsMade, openingOf, calledOf, sessionOfC, stepOf, afterStep, LendsStored, LendsRam, HostLends, HostOfC}
 use Rattle.embed_model.specs.Demand.{Demand3OfC}
 use Rattle.embed_model.proofs.Arrays.{table-long}
 
@@ -24,7 +24,7 @@ back-left : {A : Type 0} (n : ℕ) (own given leaves : List A) → length given 
 back-left n own given leaves e = rw (eq-eqb (length given) n e)
 
 -- the world after a step is that of the arrays after it
-after-world : (own : Arrays) (s : StepMade) → worldAfter (worldIn own) (stepOf s) ≡ worldIn (afterStep own s)
+pub after-world : (own : Arrays) (s : StepMade) → worldAfter (worldIn own) (stepOf s) ≡ worldIn (afterStep own s)
 unfolding worldIn
 after-world own (opens o) =
     rw (
@@ -46,7 +46,7 @@ ram : (own given : Arrays) → LendsRam own given → GetsRam (worldIn own) (wor
 unfolding worldIn
 ram own given h = record { state = rw (h .head, h .visits, h .tail); copy = inl (h .copy); scopes = inl (rw (h .scopes)) }
 
-does : (own : Arrays) (follow : Bool) (s : StepMade) → HostLends own follow s → HostDoes (worldIn own) follow (stepOf s)
+pub does : (own : Arrays) (follow : Bool) (s : StepMade) → HostLends own follow s → HostDoes (worldIn own) follow (stepOf s)
 does own follow (opens o) h = (stored own (o .given) (h .0), λ q. ram own (o .given) (h .1 q))
 does own follow (calls c) h = (h .0, h .1, stored own (c .given) (h .2), ram own (c .given) (h .3))
 
@@ -65,21 +65,21 @@ same-calls : (cs : List CallMade) (ss : List StepMade) (ts : List Step) → map 
 same-calls [] ss ts e = e
 same-calls (c ∷ cs) ss ts e = ap (λ (l : List Step). called (calledOf c) ∷ l) (same-calls cs ss ts e)
 
-same-steps : (ss : List SessionMade) → map stepOf (stepsMade ss) ≡ steps (map sessionOf ss)
+pub same-steps : (ss : List SessionMade) → map stepOf (stepsMade ss) ≡ steps (map sessionOfC ss)
 same-steps [] = refl
-same-steps (s ∷ ss) = ap (λ (l : List Step). opened (openingOf (s .opening)) ∷ l) (same-calls (s .calls) (stepsMade ss) (steps (map sessionOf ss)) (same-steps ss))
+same-steps (s ∷ ss) = ap (λ (l : List Step). opened (openingOf (s .opening)) ∷ l) (same-calls (s .calls) (stepsMade ss) (steps (map sessionOfC ss)) (same-steps ss))
 
 -- and each has its contract
 and-then : (cs : List CallMade) (ts : List Step) → Contracts ts → Contracts (map called (map calledOf cs) ++ ts)
 and-then [] ts p = p
 and-then (c ∷ cs) ts p = (c .ensures .does, and-then cs ts p)
 
-contracts : (ss : List SessionMade) → Contracts (steps (map sessionOf ss))
+contracts : (ss : List SessionMade) → Contracts (steps (map sessionOfC ss))
 contracts [] = tt
-contracts (s ∷ ss) = (s .opening .ensures .does, and-then (s .calls) (steps (map sessionOf ss)) (contracts ss))
+contracts (s ∷ ss) = (s .opening .ensures .does, and-then (s .calls) (steps (map sessionOfC ss)) (contracts ss))
 
 pub demand-3-of-c : Demand3OfC
 unfolding Demand3OfC Demand3
 demand-3-of-c format done ss h =
-    demand-3 (format .cells) (worldIn (format .given)) (answeredIn (format .number) (format .leaves)) (format .ensures .does) done (map sessionOf ss)
+    demand-3 (format .cells) (worldIn (format .given)) (answeredIn (format .number) (format .leaves)) (format .ensures .does) done (map sessionOfC ss)
     (subst (Host (worldIn (format .leaves)) true) (same-steps ss) (host (format .leaves) true (stepsMade ss) h)) (contracts ss)

@@ -1,4 +1,15 @@
 pub mod Arrays
 pub mod Refused
+pub mod Fives
 pub mod Freedom
 pub mod Demand
+pub mod Below
+pub mod FlatTables
+pub mod TableRanges
+pub mod BookArrays
+pub mod FuseFalls
+pub mod Packed
+pub mod BookAnswers
+pub mod Decisions
+pub mod StepsMade
+pub mod EveryList

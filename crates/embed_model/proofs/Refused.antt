@@ -3,7 +3,6 @@ use Prim.Native.Nat.{ℕ}
 use native.Mathlib.Omega.{arith}
 use mathlib.Core.Bool.{false}
 use mathlib.Core.Path.{_≡_, refl, ap, sym, subst}
-use mathlib.Core.Logic.{inl}
 use mathlib.Core.List.{List}
 use lib.IntN.{ℤ, pos}
 use Rattle.book.specs.Calls.{Call}
@@ -13,15 +12,15 @@ use Rattle.state.specs.World.{rightLengths}
 use Rattle.state.specs.Contracts.{formats, CallPost}
 use Rattle.state.proofs.OpenedStores.{opens-refused}
 use Rattle.state.proofs.Satisfiable.{met-lengths}
-use Rattle.embed_model.specs.Arrays.{Arrays, worldIn, Lengths}
+use Rattle.embed_model.specs.Arrays.{Arrays, worldIn, RamLengths}
 use Rattle.embed_model.specs.Packed.{answerIn, fuseIn}
-use Rattle.embed_model.specs.Called.{Formats, Opens, Calls}
+use Rattle.embed_model.specs.Called.{FormatsOfC, OpensOfC, CallsOfC}
 
-module _ (x : Arrays) (long : Lengths x) (r : ℕ) (one : answerIn r ≡ answer 1 (pos 0)) (wrong : rightLengths (worldIn x) ≡ false) where
+module _ (x : Arrays) (long : RamLengths x) (r : ℕ) (one : answerIn r ≡ answer 1 (pos 0)) (wrong : rightLengths (worldIn x) ≡ false) where
   is-one : answerIn r .number ≡ 1
   is-one = ap (λ (a : Answer). a .number) one
 
-  pub format-refused : (values : List ℤ) → Formats values x r x
+  pub format-refused : (values : List ℤ) → FormatsOfC values x r x
   unfolding formats
   format-refused values = record {
     does = record { is = rw (wrong, one) };
@@ -30,7 +29,7 @@ module _ (x : Arrays) (long : Lengths x) (r : ℕ) (one : answerIn r ≡ answer 
     sized = long;
   }
 
-  pub open-refused : (fuse : ℕ) → Opens fuse x r x
+  pub open-refused : (fuse : ℕ) → OpensOfC fuse x r x
   open-refused fuse = record {
     does = record { is = rw one (sym (opens-refused (fuseIn fuse) (worldIn x) wrong)) };
     keeps = λ n. refl;
@@ -38,12 +37,13 @@ module _ (x : Arrays) (long : Lengths x) (r : ℕ) (one : answerIn r ≡ answer 
     sized = long;
   }
 
-  pub call-refused : (k : Call) → Calls k x r x
+  pub call-refused : (k : Call) → CallsOfC k x r x
   call-refused k = record {
     does = subst (λ (a : Answer). CallPost k (worldIn x) (record { answer = a; world = worldIn x })) (sym one) (met-lengths k (worldIn x) wrong);
     keeps = λ n m. refl;
     shut = λ e. refl;
-    cut = λ e. inl refl;
-    failed = λ p q. absurd (clash _ p q);
+    beyond = λ right. clash _ right wrong;
+    cut = λ o l e. let n = is-one in absurd (omega arith);
+    done = λ z. let n = is-one in absurd (omega arith);
     sized = long;
   }

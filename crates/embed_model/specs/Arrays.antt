@@ -1,21 +1,19 @@
 -- The arrays that a function for C is lent, and the world that they are. Total: any numbers are some world.
-use Prim.Native.Nat.{ℕ, _%_}
-use mathlib.Core.Bool.{Bool, true, false, not}
+use Prim.Native.Nat.{ℕ, _+_, _%_}
+use mathlib.Core.Bool.{Bool, true, false, not, _&&_}
 use mathlib.Core.Path.{_≡_}
-use mathlib.Core.List.{List, [], _∷_, map}
+use mathlib.Core.List.{List, map}
 use lib.ListN.{length, getD, replicate}
-use lib.Dec.{eqb}
-use Rattle.book.specs.Limits.{chartsLength}
-use Rattle.tables_model.specs.declared.Counts.{Counts}
-use Rattle.tables_model.specs.Entries.{flatLength, entries, scopeOf}
-use Rattle.tables_model.specs.Visits.{visitsLength, tablesIn}
+use lib.Dec.{eqb, leb}
+use Rattle.book.specs.Limits.{chartsLength, rowLimit, tailLimit, activeLimit, scopeLimit}
+use Rattle.tables_model.specs.Layout.{visitsLength, actives, flatLength, entries}
+use Rattle.tables_model.specs.Meaning.{scopeOf}
 use Rattle.state.specs.declared.ram.Phase.{Phase}
 use Rattle.state.specs.declared.ram.Phase.the-variants.{Open, Closed}
 use Rattle.state.specs.declared.ram.Fuse.{Fuse}
 use Rattle.state.specs.declared.ram.Fuse.the-variants.{Unlimited, Left}
-use Rattle.state.specs.World.{World, world}
-use Rattle.journal.specs.declared.Control.{Control}
-use Rattle.journal.specs.Outcomes.{tailLength, stateAfter}
+use Rattle.state.specs.declared.ram.State.{State}
+use Rattle.state.specs.World.{World, world, tailLength}
 
 -- five arrays of RAM, the stored log and the stored charts
 pub record Arrays : Type 0 where
@@ -52,47 +50,31 @@ abbrev pub fuseBy : Bool → ℕ → Fuse
 fuseBy true n = Left n
 fuseBy false n = Unlimited
 
--- where the journal stands
-abbrev pub controlOf : List ℕ → Control
-controlOf head = record {
+-- ── The world ─────────────────────────────────────────────────────────────────────────────────────────────────────────
+
+-- the state: what the head says, the visits and the tail; the begin rows are a number of 16 bits
+abbrev pub stateIn : List ℕ → List ℕ → List ℕ → State
+stateIn head visits tail = record {
   phase = phaseBy (isSet (getD head 0 0));
   fuse = fuseBy (isSet (getD head 1 0)) (getD head 2 0);
   stored = getD head 3 0;
   waiting = getD head 4 0;
+  tables = record { begun = getD head 5 0 % 65536; active = actives visits; count = getD head 6 0; used = getD head 7 0 };
+  tail = tail;
 }
 
--- the counters of the tables; the begin rows are a number of 16 bits
-abbrev pub countsIn : List ℕ → Counts
-countsIn head = record { begun = getD head 5 0 % 65536; count = getD head 6 0; used = getD head 7 0 }
-
--- the numbers that a phase and a fuse are written as
-abbrev pub phaseNumber : Phase → ℕ
-phaseNumber Open = 1
-phaseNumber Closed = 0
-
-abbrev pub kindNumber : Fuse → ℕ
-kindNumber (Left n) = 1
-kindNumber Unlimited = 0
-
-abbrev pub leftNumber : Fuse → ℕ
-leftNumber (Left n) = n
-leftNumber Unlimited = 0
-
--- the head that says them
-abbrev pub headOf : Control → Counts → List ℕ
-headOf c t =
-    phaseNumber (c .phase) ∷ kindNumber (c .fuse) ∷ leftNumber (c .fuse) ∷ c .stored ∷ c .waiting ∷ t .begun ∷ t .count ∷ t .used ∷ []
-
--- ── The world ─────────────────────────────────────────────────────────────────────────────────────────────────────────
+-- 01's limits, of the counters that the head says: at most 64 rows wait, log and tail have at most 4,096 rows, at most 16 visits are active and 64 scope
+-- entries in use
+unfoldable pub inLimits : List ℕ → Bool
+inLimits head =
+    leb (getD head 4 0) tailLimit && leb (getD head 3 0 + getD head 4 0) rowLimit && leb (getD head 6 0) activeLimit && leb (getD head 7 0) scopeLimit
 
 -- the world that the arrays are
 unfoldable pub worldIn : Arrays → World
-worldIn x =
-    world (stateAfter (controlOf (x .head)) (tablesIn (countsIn (x .head)) (x .visits)) (x .tail)) (x .log) (x .charts) (x .copy)
-    (map scopeOf (entries (x .scopes)))
+worldIn x = world (stateIn (x .head) (x .visits) (x .tail)) (x .log) (x .charts) (x .copy) (map scopeOf (entries (x .scopes)))
 
 -- the lengths of the arrays of RAM, which their types fix; log and charts are lent with a length of their own
-pub record Lengths (x : Arrays) : Type 0 where
+pub record RamLengths (x : Arrays) : Type 0 where
   pub head : length (x .head) ≡ headLength
   pub visits : length (x .visits) ≡ visitsLength
   pub scopes : length (x .scopes) ≡ flatLength

@@ -7,8 +7,8 @@ use mathlib.Core.List.{List}
 use lib.ListN.{length}
 use Rattle.book.specs.Limits.{logLength, chartsLength}
 use Rattle.book.specs.Calls.{Call, Typed}
-use Rattle.embed_model.specs.Arrays.{Arrays, arrays, Lengths}
-use Rattle.embed_model.specs.Called.{Opens, Calls}
+use Rattle.embed_model.specs.Arrays.{Arrays, arrays, RamLengths}
+use Rattle.embed_model.specs.Called.{OpensOfC, CallsOfC}
 use Rattle.embed_model.specs.Host.{opens, calls, HostLends}
 
 -- 01: an opening with any fuse and any RAM; the stored log and charts as last left, or of another length, each by itself
@@ -17,7 +17,7 @@ AnyOpeningOfC =
     (own : Arrays) (follow : Bool) (fuse : ℕ) (head visits scopes tail copy log charts : List ℕ) →
     (log ≡ own .log) ⊎ (length log ≢ logLength) → (charts ≡ own .charts) ⊎ (length charts ≢ chartsLength) →
     let given : Arrays = arrays head visits scopes tail copy log charts in
-    (long : Lengths given) (r : ℕ) (leaves : Arrays) (e : Opens fuse given r leaves) →
+    (long : RamLengths given) (r : ℕ) (leaves : Arrays) (e : OpensOfC fuse given r leaves) →
     HostLends own follow (opens (record { fuse = fuse; asLeft = false; given = given; long = long; number = r; leaves = leaves; ensures = e }))
 
 -- 01: any call is lent, for itself alone, log and charts as last left or of another length, and so is an opening that gets RAM as left
@@ -26,8 +26,8 @@ AnyLengthsOfC =
     (own : Arrays) (log charts : List ℕ) →
     (log ≡ own .log) ⊎ (length log ≢ logLength) → (charts ≡ own .charts) ⊎ (length charts ≢ chartsLength) →
     let given : Arrays = arrays (own .head) (own .visits) (own .scopes) (own .tail) (own .copy) log charts in
-    (long : Lengths given) (r : ℕ) (leaves : Arrays) →
-    ((k : Call) → Typed k → (e : Calls k given r leaves) →
+    (long : RamLengths given) (r : ℕ) (leaves : Arrays) →
+    ((k : Call) → Typed k → (e : CallsOfC k given r leaves) →
     HostLends own true (calls (record { call = k; given = given; long = long; number = r; leaves = leaves; ensures = e }))) ×
-    ((fuse : ℕ) (follow : Bool) (e : Opens fuse given r leaves) →
+    ((fuse : ℕ) (follow : Bool) (e : OpensOfC fuse given r leaves) →
     HostLends own follow (opens (record { fuse = fuse; asLeft = true; given = given; long = long; number = r; leaves = leaves; ensures = e })))

@@ -8,9 +8,9 @@ use lib.IntN.{ℤ}
 use Rattle.book.specs.Limits.{logLength, chartsLength}
 use Rattle.book.specs.Calls.{Call, Typed}
 use Rattle.sessions.specs.Host.{Opening, Called, Session, Step, opened, called, back, Lent, callsFollow}
-use Rattle.embed_model.specs.Arrays.{Arrays, arrays, worldIn, Lengths}
+use Rattle.embed_model.specs.Arrays.{Arrays, arrays, worldIn, RamLengths}
 use Rattle.embed_model.specs.Packed.{fuseIn}
-use Rattle.embed_model.specs.Called.{answeredIn, Formats, Opens, Calls}
+use Rattle.embed_model.specs.Called.{answeredIn, FormatsOfC, OpensOfC, CallsOfC}
 
 -- ── The calls ─────────────────────────────────────────────────────────────────────────────────────────────────────────
 
@@ -18,29 +18,29 @@ use Rattle.embed_model.specs.Called.{answeredIn, Formats, Opens, Calls}
 pub record FormatMade : Type 0 where
   pub cells : List ℤ
   pub given : Arrays
-  pub long : Lengths given
+  pub long : RamLengths given
   pub number : ℕ
   pub leaves : Arrays
-  pub ensures : Formats cells given number leaves
+  pub ensures : FormatsOfC cells given number leaves
 
 -- of `chart_open_on`
 pub record OpeningMade : Type 0 where
   pub fuse : ℕ
   pub asLeft : Bool  -- it gets the RAM that the call before it left
   pub given : Arrays
-  pub long : Lengths given
+  pub long : RamLengths given
   pub number : ℕ
   pub leaves : Arrays
-  pub ensures : Opens fuse given number leaves
+  pub ensures : OpensOfC fuse given number leaves
 
 -- of one of the others
 pub record CallMade : Type 0 where
   pub call : Call
   pub given : Arrays
-  pub long : Lengths given
+  pub long : RamLengths given
   pub number : ℕ
   pub leaves : Arrays
-  pub ensures : Calls call given number leaves
+  pub ensures : CallsOfC call given number leaves
 
 -- 01: a session, an opening, then any list of calls
 pub record SessionMade : Type 0 where
@@ -64,8 +64,8 @@ openingOf o = record { fuse = fuseIn (o .fuse); asLeft = o .asLeft; given = worl
 abbrev pub calledOf : CallMade → Called
 calledOf c = record { call = c .call; given = worldIn (c .given); result = answeredIn (c .number) (c .leaves) }
 
-abbrev pub sessionOf : SessionMade → Session
-sessionOf s = record { opening = openingOf (s .opening); calls = map calledOf (s .calls) }
+abbrev pub sessionOfC : SessionMade → Session
+sessionOfC s = record { opening = openingOf (s .opening); calls = map calledOf (s .calls) }
 
 abbrev pub stepOf : StepMade → Step
 stepOf (opens o) = opened (openingOf o)

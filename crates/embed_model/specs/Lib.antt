@@ -4,3 +4,5 @@ pub mod Called
 pub mod Host
 pub mod Freedom
 pub mod Demand
+pub mod EveryList
+pub mod Head

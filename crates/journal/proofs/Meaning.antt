@@ -15,29 +15,15 @@ use Rattle.book.specs.Rows.{Row, fits}
 use Rattle.book.specs.LogBytes.{rowsBytes}
 use Rattle.book.specs.Power.{Book, Fuse, none, left, rowsOf, closed, storeRow, force, storePage, append, add}
 use Rattle.book.proofs.Lists.{clash}
-use Rattle.book.proofs.LogBytes.{log-long}
 use Rattle.book.proofs.Steps.{Shut, bookOf, extends-times, extends-force}
 use Rattle.book.proofs.Force.{force-empties}
 use Rattle.rows.proofs.Meanings.{narrowed-fits}
 use Rattle.journal.specs.Writes.{putPage}
-use Rattle.journal.specs.Force.{Ran, chunks, runs, controlAfter, Sizes}
+use Rattle.journal.specs.Force.{Ran, chunks, runs, controlAfter}
 use Rattle.journal.specs.Journal.{Journal, forcedUpTo, tailAfter, forced, withRoom, joinedIf, appended, paged}
 use Rattle.journal.specs.Meaning.{phaseOf, controlOf, journalOf}
 use Rattle.journal.proofs.RowsInBytes.{snoc-length, put-next, left-rows, shift-rows, tail-long}
 use Rattle.journal.proofs.RunsOfRows.{ranOf, runs-rows, others-wait}
-
-rows-count : (b : Book) → length (rowsOf b) ≡ length (b .stored) + length (b .waiting)
-rows-count b = length-append (b .stored) (b .waiting)
-
--- ── Sizes ─────────────────────────────────────────────────────────────────────────────────────────────────────────────
-
--- what each function supposes
-pub sizes : (b : Book) → length (b .waiting) ≤ 64 → length (rowsOf b) ≤ 4096
-    → Sizes (journalOf b .control) (length (journalOf b .log)) (length (journalOf b .tail))
-unfolding journalOf controlOf
-sizes b few room =
-    let k = rows-count b in
-    record { log-long = log-long (b .stored) (omega arith); tail-long = tail-long (suc (length (b .stored))) (b .waiting) few; few = few; room = omega arith }
 
 -- ── Force ─────────────────────────────────────────────────────────────────────────────────────────────────────────────
 

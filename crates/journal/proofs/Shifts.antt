@@ -1,15 +1,37 @@
--- Parts of a list that are replaced: a copy of the same length, and a turn of the loop that moves the tail's rows to the front. Assumes nothing.
+-- Parts of a list that are replaced: a copy of the same length, two parts one after the other, and a turn of the loop that moves the tail's rows to the
+-- front. Assumes nothing.
 use mathlib.Core.Path.{_≡_, ap, ap₂, sym, _∙_}
-use mathlib.Core.List.{List, _++_, append-nil}
+use mathlib.Core.List.{List, _++_, append-nil, append-assoc}
 use Prim.Native.Nat.{ℕ, suc, _+_, _-_, _≤_, _<_}
 use native.Mathlib.Omega.{arith}
 use native.Mathlib.Numerals.{add-one}
-use lib.ListN.{length, take, drop, getD, set, replicate, length-append, length-drop, drop-of-length-le}
-use lib.Seq.{take-length, take-all, length-take-le, take-suc, drop-cons, getD-drop, getD-append-add, set-at, take-at, drop-at, append-snoc}
+use lib.ListN.{length, take, drop, getD, set, replicate, length-drop, drop-of-length-le}
+use lib.Seq.{take-length, take-all, take-take, take-append-le, drop-drop, length-take-le, take-suc, drop-cons, getD-drop, getD-append-add, set-at, take-at, drop-at}
+use lib.Seq.{append-snoc}
+use Rattle.journal.specs.Writes.{putAt}
 
 -- a copy over as many bytes leaves those of the source
 pub copied : (s d : List ℕ) → length d ≡ length s → take (length s) s ++ drop (length s) d ≡ s
 copied s d h = ap₂ (λ (x y : List ℕ). x ++ y) (take-length s) (drop-of-length-le d {i = length s} (omega arith)) ∙ append-nil s
+
+-- n numbers replaced from place a on after the m behind them: all of them replaced at once
+pub put-both : (l x y : List ℕ) (a n m : ℕ) → length x ≡ n → length y ≡ m → a + n ≤ length l
+    → putAt n (putAt m l (a + n) y) a x ≡ putAt (n + m) l a (x ++ y)
+put-both l x y a n m hx hy h =
+    let t = take (a + n) l in
+    let k = length-take-le (a + n) l h in
+    let r = y ++ drop m (drop (a + n) l) in
+    let e : a + n + m ≡ a + (n + m) = omega arith in
+    rw (
+      take-append-le a t r (omega arith),
+      take-take a (a + n) l (omega arith),
+      drop-drop n a (t ++ r),
+      drop-at t r (a + n) k,
+      append-assoc x y (drop (n + m) (drop a l)),
+      drop-drop (n + m) a l,
+      drop-drop m (a + n) l,
+      e,
+    )
 
 -- the tail after i turns: i bytes are moved to the front by g
 abbrev pub moved : ℕ → ℕ → List ℕ → List ℕ
@@ -17,10 +39,6 @@ moved g i t = take i (drop g t) ++ drop i t
 
 front : (g i : ℕ) (t : List ℕ) → i + g ≤ length t → length (take i (drop g t)) ≡ i
 front g i t h = length-take-le i (drop g t) (simp length-drop (omega arith))
-
-pub moved-long : (g i : ℕ) (t : List ℕ) → i + g ≤ length t → length (moved g i t) ≡ length t
-moved-long g i t h =
-    let a = length-append (take i (drop g t)) (drop i t) in let b = front g i t h in let c = length-drop i t in omega arith
 
 -- the byte that the next turn reads
 pub moved-read : (g i : ℕ) (t : List ℕ) → i + g < length t → getD (moved g i t) (i + g) 0 ≡ getD t (i + g) 0

@@ -1,5 +1,5 @@
 -- A run of stored writes: rows of the tail go to the end of the log until one is beyond the fuse.
-use Prim.Native.Nat.{ℕ, zero, suc, _+_, _*_, _-_, _≤_}
+use Prim.Native.Nat.{ℕ, zero, suc, _+_, _*_, _≤_}
 use mathlib.Core.Path.{_≡_}
 use mathlib.Core.Bool.{true, false, cond}
 use mathlib.Core.List.{List, [], _∷_, _++_}
@@ -8,6 +8,7 @@ use Rattle.book.specs.Limits.{rowLimit, rowLength, logLength, tailLimit}
 use Rattle.state.specs.declared.ram.Phase.the-variants.{Closed}
 use Rattle.state.specs.declared.ram.Fuse.{Fuse}
 use Rattle.state.specs.declared.ram.Fuse.the-variants.{Unlimited, Left}
+use Rattle.state.specs.World.{tailLength}
 use Rattle.journal.specs.declared.Control.{Control}
 use Rattle.journal.specs.declared.force.Run.{Run}
 use Rattle.journal.specs.Writes.{putRow}
@@ -45,6 +46,6 @@ shifted m tail = drop (rowLength * m) tail ++ replicate (rowLength * m) 0
 -- the lengths of 01, and counters within them
 pub record Sizes (c : Control) (log tail : ℕ) : Type 0 where
   pub log-long : log ≡ logLength
-  pub tail-long : tail ≡ 1024
+  pub tail-long : tail ≡ tailLength
   pub few : c .waiting ≤ tailLimit
   pub room : c .stored + c .waiting ≤ rowLimit

@@ -5,7 +5,7 @@ use lib.ListN.{length}
 use Rattle.book.specs.Lists.{padTo}
 use Rattle.book.specs.Power.{Book}
 use Rattle.book.specs.LogBytes.{rowsBytes, logBytes}
-use Rattle.state.specs.World.{fuseOf}
+use Rattle.state.specs.World.{fuseOf, tailLength}
 use Rattle.state.specs.declared.ram.Phase.{Phase}
 use Rattle.state.specs.declared.ram.Phase.the-variants.{Open, Closed}
 use Rattle.journal.specs.declared.Control.{Control}
@@ -21,5 +21,5 @@ unfoldable pub journalOf : Book → Journal
 journalOf b = record {
   control = controlOf b;
   log = logBytes (b .stored);
-  tail = padTo 1024 0 (rowsBytes (suc (length (b .stored))) (b .waiting));
+  tail = padTo tailLength 0 (rowsBytes (suc (length (b .stored))) (b .waiting));
 }

@@ -6,20 +6,17 @@ use lib.ListN.{replicate}
 use Rattle.book.specs.Limits.{chartsLength, rowLimit, tailLimit, activeLimit, scopeLimit}
 use Rattle.tables_model.specs.declared.Counts.{Counts}
 use Rattle.tables_model.specs.declared.Tables.{Tables}
-use Rattle.tables_model.specs.Entries.{scopeOf, entries, flatLength}
-use Rattle.tables_model.specs.Visits.{visitsLength, tablesIn}
+use Rattle.tables_model.specs.Layout.{entries, flatLength, visitsLength}
+use Rattle.tables_model.specs.Meaning.{scopeOf}
+use Rattle.tables_model.specs.Visits.{tablesIn}
 use Rattle.state.specs.declared.ram.Fuse.the-variants.{Unlimited}
 use Rattle.state.specs.declared.ram.Phase.the-variants.{Closed}
 use Rattle.state.specs.declared.ram.State.{State}
 use Rattle.state.specs.Answers.{numberAndValue}
-use Rattle.state.specs.World.{world}
+use Rattle.state.specs.World.{world, tailLength}
 use Rattle.state.specs.Contracts.{Answered}
 use Rattle.journal.specs.declared.Control.{Control}
 use Rattle.journal.specs.declared.Outcome.{Outcome}
-
--- the length of the tail
-abbrev pub tailLength : ℕ
-tailLength = 1024
 
 -- the state by where the journal stands, the tables and the tail
 abbrev pub stateAfter : Control → Tables → List ℕ → State

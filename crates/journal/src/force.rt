@@ -2,12 +2,16 @@
 ghost use mathlib.Core.Path.{_≡_};
 ghost use Prim.Native.Nat.{_+_, _*_, _≤_};
 ghost use lib.ListN.{length};
+ghost use Rattle.book.specs.Limits.{rowLength};
 ghost use Rattle.journal.specs.Force.{runs, chunks, controlAfter, shifted, Sizes};
 ghost use Rattle.journal.specs.Journal.{journal, forced, forcedUpTo};
+ghost use Rattle.state.specs.World.{tailLength};
 use crate::Control;
 use crate::fuse::Spent;
 use crate::writes::clear;
 use crate::writes::store_row;
+use rows::limits::ROW_LENGTH;
+use rows::limits::TAIL_LENGTH;
 use state::ram::Fuse;
 use state::ram::Phase;
 
@@ -20,15 +24,15 @@ pub struct Run {
 
 // The tail's first m rows go to the end of the log, until a write is beyond the fuse.
 fn store_tail(f: Fuse, stored: usize, m: usize, log: &mut [u8], tail: &[u8]) -> Run
-    requires { ⌜ (16 * (stored + m) ≤ length (now log)) × (16 * m ≤ length (now tail)) ⌝ }
+    requires { ⌜ (rowLength * (stored + m) ≤ length (now log)) × (rowLength * m ≤ length (now tail)) ⌝ }
     ensures { λ r. ⌜ (r ≡ runs f stored (now (log .entry)) (chunks m (now (tail .entry))) .run)
         × (now (log .exit) ≡ runs f stored (now (log .entry)) (chunks m (now (tail .entry))) .log) ⌝ }
 {
     let mut fuse = f;
     let mut j: usize = 0;
     while j < m {
-        let a = 16 * j;
-        let e = a + 16;
+        let a = ROW_LENGTH * j;
+        let e = a + ROW_LENGTH;
         let s = store_row(fuse, stored + j, log, &tail[a..e]);
         match s {
             Spent::Lands(g) => {
@@ -87,17 +91,17 @@ pub fn force(c: Control, log: &mut [u8], tail: &mut [u8]) -> Control
 
 // The rows behind the first m move to the front, zeros follow.
 fn shift(tail: &mut [u8], m: usize)
-    requires { ⌜ (16 * m ≤ length (now tail)) × (length (now tail) ≡ 1024) ⌝ }
+    requires { ⌜ (rowLength * m ≤ length (now tail)) × (length (now tail) ≡ tailLength) ⌝ }
     ensures { λ _. ⌜ now (tail .exit) ≡ shifted m (now (tail .entry)) ⌝ }
 {
-    let gap = 16 * m;
-    let keep = 1024 - gap;
+    let gap = ROW_LENGTH * m;
+    let keep = TAIL_LENGTH - gap;
     let mut i: usize = 0;
     while i < keep {
         tail[i] = tail[i + gap];
         i += 1;
     }
-    clear(&mut tail[keep..1024]);
+    clear(&mut tail[keep..TAIL_LENGTH]);
 }
 
 // The first m waiting rows are stored, the others go on waiting.

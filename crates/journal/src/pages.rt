@@ -2,6 +2,7 @@
 ghost use mathlib.Core.Path.{_≡_};
 ghost use Prim.Native.Nat.{_+_, _*_, _≤_};
 ghost use lib.ListN.{length};
+ghost use Rattle.book.specs.Limits.{pageLength};
 ghost use Rattle.journal.specs.Journal.{paged};
 use crate::Control;
 use crate::fuse::Spent;
@@ -11,7 +12,7 @@ use state::ram::Phase;
 
 // One stored write of the page's bytes, unless the journal is closed.
 pub fn write_page(c: Control, charts: &mut [u8], p: usize, page: &[u8]) -> Control
-    requires { ⌜ (32 * p + 32 ≤ length (now charts)) × (length (now page) ≡ 32) ⌝ }
+    requires { ⌜ (pageLength * p + pageLength ≤ length (now charts)) × (length (now page) ≡ pageLength) ⌝ }
     ensures { λ r. ⌜ record { control = r; charts = now (charts .exit) } ≡ paged c (now (charts .entry)) p (now (page .entry)) ⌝ }
 {
     let phase = c.phase;

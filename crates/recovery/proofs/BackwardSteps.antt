@@ -7,7 +7,7 @@ use lib.ListN.{getD}
 use Rattle.book.specs.Rows.{Row}
 use Rattle.state.specs.declared.ram.Fuse.{Fuse}
 use Rattle.tables_model.specs.declared.Active.{Active}
-use Rattle.tables_model.specs.Visits.{vacant}
+use Rattle.tables_model.specs.Meaning.{vacant}
 use Rattle.tables_model.specs.declared.Whom.the-variants.{All}
 use Rattle.tables_model.specs.Rows.{Index}
 use Rattle.journal.specs.Journal.{Journal, forced}
@@ -15,7 +15,7 @@ use Rattle.undo.specs.Writing.{Ram, written}
 use Rattle.undo.specs.TakeBack.{Taking, fallAll}
 use Rattle.undo.proofs.Counters.{Counters, counters-written, counters-fallAll}
 use Rattle.undo.proofs.CountersForced.{counters-forced}
-use Rattle.recovery_model.specs.Backward.{abortAll, starting, backward}
+use Rattle.recovery_model.specs.Backward.{abortAll, startingBy, backward}
 
 module _ (active : List Active) (m : Ram) where
   turn : (n : ℕ) → abortAll (suc n) active m ≡ abortAll n active (written m (Row.abort (getD active n vacant .visit .0)))
@@ -43,9 +43,9 @@ module _ (f : Fuse) (rows : ℕ) (x : Index) (log copy : List ℕ) where
   counters-backward h =
       counters-forced _
       (counters-aborted (x .tables .count) (x .tables .active) _
-      (counters-fallAll rows All (x .tables .used) (record { ram = starting f rows log copy; scopes = x .scopes }) (record { few = omega arith; room = omega arith })))
+      (counters-fallAll rows All (x .tables .used) (record { ram = startingBy f rows log copy; scopes = x .scopes }) (record { few = omega arith; room = omega arith })))
 
-  pub three-steps : (t : Taking) (m : Ram) (j : Journal) → t ≡ fallAll rows All (x .tables .used) (record { ram = starting f rows log copy; scopes = x .scopes })
+  pub three-steps : (t : Taking) (m : Ram) (j : Journal) → t ≡ fallAll rows All (x .tables .used) (record { ram = startingBy f rows log copy; scopes = x .scopes })
       → m ≡ abortAll (x .tables .count) (x .tables .active) (t .ram) → j ≡ forced (m .journal) → record { journal = j; copy = m .copy } ≡ backward f rows x log copy
   unfolding backward
   three-steps t m j d e g = rw (g, e, d)

@@ -1,20 +1,17 @@
--- Rows looked up in the log: where they stand. Assumes nothing.
-use Prim.Native.Nat.{ℕ, _-_, _≤_, _<_}
+-- The log as a part of the journal that begins with row 1: a row looked up in it, and the search in it for the change before another. Assumes nothing.
+use Prim.Native.Nat.{ℕ}
 use mathlib.Core.Path.{_≡_}
 use mathlib.Core.List.{List}
-use native.Mathlib.Omega.{arith}
-use borrow.Author.Tests.{le-leb, lt-leb}
-use Rattle.book.specs.Rows.{Row}
-use Rattle.book.specs.RowBytes.{rowOf}
-use Rattle.undo.specs.Looking.{rowBytesAt}
+use native.Mathlib.Nat.{sub-zero}
+use Rattle.book.specs.Scopes.{Scope}
+use Rattle.tables_model.specs.Lookup.{beforeLast}
+use Rattle.undo.specs.Looking.{rowOfPart}
+use Rattle.undo.proofs.LookUps.{same-below}
 use Rattle.recovery_model.specs.Scan.{rowIn}
 
-module _ (log : List ℕ) (k n : ℕ) where
-  pub row-none : n ≡ 0 → rowIn log k n ≡ Row.begin 0
-  row-none e = rw e
+module _ (log : List ℕ) (k : ℕ) where
+  pub row-of-log : (n : ℕ) → rowOfPart log 0 k n ≡ rowIn log k n
+  row-of-log n = rw (sub-zero n)
 
-  pub row-beyond : k < n → rowIn log k n ≡ Row.begin 0
-  row-beyond h = rw (le-leb 1 n (omega arith), lt-leb n k h)
-
-  pub row-here : (n ≡ 0 → ⊥) → n ≤ k → rowIn log k n ≡ rowOf (rowBytesAt log (n - 1))
-  row-here z h = rw (le-leb 1 n (omega arith), le-leb n k h)
+  pub before-in-log : (s : Scope) → beforeLast (rowOfPart log 0 k) s ≡ beforeLast (rowIn log k) s
+  before-in-log s = same-below (rowOfPart log 0 k) (rowIn log k) (s .maker) (s .cell) (s .first) (s .last) (λ n h. row-of-log n)

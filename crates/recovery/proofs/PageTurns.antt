@@ -1,6 +1,6 @@
 -- The turns of the loops over pages and rows of the forward part, and a row of a page by its bytes. Assumes nothing.
 use Prim.Native.Nat.{ℕ, zero, suc, _+_, _-_, _*_, _/_, _%_, _≤_, _<_}
-use mathlib.Core.Path.{_≡_, refl, ap, sym, _∙_}
+use mathlib.Core.Path.{_≡_, refl, ap, _∙_}
 use mathlib.Core.Bool.{Bool, true, false, cond}
 use mathlib.Core.List.{List}
 use native.Mathlib.Omega.{arith}
@@ -19,7 +19,7 @@ use Rattle.rows.specs.Meaning.{coded, effectOf, effectMeant}
 use Rattle.rows.proofs.Meanings.{meant-coded, effect-meant}
 use Rattle.charts.proofs.Lengths.{page-length}
 use Rattle.undo.specs.Looking.{rowBytesAt}
-use Rattle.recovery_model.specs.Charts.{pageRedone, redoFrom, redoPage}
+use Rattle.recovery_model.specs.Charts.{pageRedone, redoFrom}
 use Rattle.recovery_model.specs.Forward.{pageWith}
 
 -- ── A row of a page ───────────────────────────────────────────────────────────────────────────────────────────────────
@@ -76,17 +76,6 @@ redone-length p (moves c z) n bs = go (touches p (moves c z)) refl
     go : (t : Bool) → touches p (moves c z) ≡ t → length (pageRedone p (moves c z) n bs) ≡ length bs
     go true e = rw e (page-length bs (c % 7) z n)
     go false e = rw e
-
-from-length : (m k : ℕ) (log : List ℕ) (p : ℕ) (bs : List ℕ) → length (redoFrom m k log p bs) ≡ length bs
-unfolding redoFrom
-from-length zero k log p bs = refl
-from-length (suc m) k log p bs =
-    let r = effect (rowOf (rowBytesAt log k)) in
-    from-length m (suc k) log p (pageRedone p r (suc k) bs) ∙ redone-length p r (suc k) bs
-
-pub redo-length : (log : List ℕ) (rows p : ℕ) (bs : List ℕ) → length (redoPage log rows p bs) ≡ length bs
-unfolding redoPage
-redo-length log rows p bs = from-length _ _ log p bs
 
 -- ── Pages tested in turn ──────────────────────────────────────────────────────────────────────────────────────────────
 

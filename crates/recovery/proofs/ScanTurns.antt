@@ -15,7 +15,7 @@ use Rattle.tables_model.specs.declared.Verdict.{Verdict}
 use Rattle.tables_model.specs.declared.Verdict.the-variants.{Allowed, Unlawful, OverLimit}
 use Rattle.tables_model.specs.Visits.{InRange}
 use Rattle.tables_model.specs.Rows.{Index, judgeBy}
-use Rattle.tables_model.specs.Meaning.{beforeUndone}
+use Rattle.tables_model.specs.Lookup.{beforeUndone}
 use Rattle.tables.proofs.Verdicts.{allowed-takes}
 use Rattle.tables.proofs.Ranges.{step-range}
 use Rattle.undo.specs.Looking.{rowBytesAt}

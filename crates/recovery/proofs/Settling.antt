@@ -10,8 +10,7 @@ use Rattle.state.specs.declared.ram.Phase.the-variants.{Open}
 use Rattle.state.specs.Answers.{Case, numberAndValue, written, refusal, caseOf}
 use Rattle.state.specs.World.{cleared}
 use Rattle.state.specs.Contracts.{Answered}
-use Rattle.tables_model.specs.Visits.{visitsLength}
-use Rattle.tables_model.specs.Entries.{flatLength}
+use Rattle.tables_model.specs.Layout.{visitsLength, flatLength}
 use Rattle.tables.proofs.Flat.{entries-zero}
 use Rattle.tables.proofs.Places.{actives-zero}
 use Rattle.journal.specs.declared.Control.{Control}

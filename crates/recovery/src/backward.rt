@@ -2,8 +2,10 @@
 ghost use mathlib.Core.Path.{_≡_};
 ghost use Prim.Native.Nat.{_≤_};
 ghost use lib.ListN.{length, replicate};
-ghost use Rattle.tables_model.specs.Visits.{actives};
+ghost use Rattle.book.specs.Limits.{activeLimit};
+ghost use Rattle.tables_model.specs.Layout.{visitsLength, actives};
 ghost use Rattle.tables_model.specs.Rows.{index};
+ghost use Rattle.state.specs.World.{tailLength};
 ghost use Rattle.undo.specs.Writing.{ram, Fits};
 ghost use Rattle.recovery_model.specs.Backward.{abortAll, backward as backwardOf};
 ghost use Rattle.recovery_model.specs.Checking.{Recovers};
@@ -27,7 +29,7 @@ fn abort_all(
     visits: &[u16],
     count: usize,
 ) -> Control
-    requires { ⌜ Fits c (length (now log)) (length (now tail)) (length (now copy)) × (length (now visits) ≡ 32) × (count ≤ 16) ⌝ }
+    requires { ⌜ Fits c (length (now log)) (length (now tail)) (length (now copy)) × (length (now visits) ≡ visitsLength) × (count ≤ activeLimit) ⌝ }
     ensures { λ r. ⌜ ram r (now (log .exit)) (now (tail .exit)) (now (copy .exit))
         ≡ abortAll count (actives (now (visits .entry))) (ram c (now (log .entry)) (now (tail .entry)) (now (copy .entry))) ⌝ }
 {
@@ -53,7 +55,7 @@ pub fn backward(
     scopes: &mut [u16],
 ) -> Control
     requires { ⌜ Recovers s (length (now log)) (length (now copy)) (length (now tail)) (length (now visits)) (length (now scopes)) ⌝ }
-    requires { ⌜ now tail ≡ replicate 1024 0 ⌝ }
+    requires { ⌜ now tail ≡ replicate tailLength 0 ⌝ }
     ensures { λ r. ⌜ ram r (now (log .exit)) (now (tail .exit)) (now (copy .exit))
         ≡ backwardOf fuse (s .rows) (index (s .counts) (now (visits .entry)) (now (scopes .entry))) (now (log .entry)) (now (copy .entry)) ⌝ }
 {

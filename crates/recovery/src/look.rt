@@ -6,60 +6,25 @@ ghost use lib.ListN.{length};
 ghost use Rattle.book.specs.Rows.{undoneBy};
 ghost use Rattle.rows.specs.Meaning.{meant, coded};
 ghost use Rattle.tables_model.specs.declared.Whom.the-variants.{One};
-ghost use Rattle.tables_model.specs.Entries.{scopeIn, entries, Sized};
+ghost use Rattle.tables_model.specs.Entries.{Sized};
+ghost use Rattle.tables_model.specs.Layout.{entries};
 ghost use Rattle.tables_model.specs.Table.{Reaches};
 ghost use Rattle.tables_model.specs.Rows.{index};
-ghost use Rattle.tables_model.specs.Meaning.{beforeLast, beforeFound, beforeHighest, beforeUndone};
+ghost use Rattle.tables_model.specs.Lookup.{beforeFound, beforeHighest, beforeUndone};
 ghost use Rattle.recovery_model.specs.Scan.{rowIn};
 ghost use Rattle.recovery_model.specs.Checking.{Rows};
 use rows::Lsn;
 use rows::Row;
 use rows::Visit;
-use rows::reader::row_in;
 use tables::entries::entry_at;
 use tables::lookup::highest;
 use tables_model::Counts;
 use tables_model::Found;
-use tables_model::Scope;
 use tables_model::Whom;
-use undo::look::change_before;
+use undo::look::before_last_in;
+use undo::look::row_of_part;
 
-// Row n, counted from 1, if it is one of the first k. Of no such row any will do.
-pub fn row_in_log(log: &[u8], k: usize, n: usize) -> Row
-    requires { ⌜ Rows (length (now log)) k ⌝ }
-    ensures { λ r. ⌜ r ≡ coded (rowIn (now (log .entry)) k n) ⌝ }
-{
-    if n == 0 {
-        return Row::Begin(Visit(0));
-    }
-    if k < n {
-        return Row::Begin(Visit(0));
-    }
-    let a = 16 * (n - 1);
-    let e = a + 16;
-    row_in(&log[a..e])
-}
-
-// The change before the scope's last one, 0 for none.
-fn before_last(log: &[u8], k: usize, s: Scope) -> Lsn
-    requires { ⌜ Rows (length (now log)) k ⌝ }
-    ensures { λ r. ⌜ r .0 ≡ beforeLast (rowIn (now (log .entry)) k) (scopeIn s) ⌝ }
-{
-    let maker = s.maker;
-    let cell = s.cell;
-    let n = change_before(
-        log,
-        0,
-        k,
-        s.first.0 as usize,
-        s.last.0 as usize,
-        maker,
-        cell,
-    );
-    Lsn(n as u16)
-}
-
-// That of the entry found, 0 for none.
+// The change before the last one of the entry found in its scope, among the first k rows of the log; 0 for none.
 fn before_found(log: &[u8], k: usize, scopes: &[u16], found: Found) -> Lsn
     requires { ⌜ Rows (length (now log)) k ⌝ }
     requires { ⌜ Reaches (length (now scopes)) found ⌝ }
@@ -68,7 +33,7 @@ fn before_found(log: &[u8], k: usize, scopes: &[u16], found: Found) -> Lsn
     match found {
         Found::At(i) => {
             let s = entry_at(scopes, i);
-            before_last(log, k, s)
+            Lsn(before_last_in(log, 0, k, s) as u16)
         }
         Found::Nothing => Lsn(0),
     }
@@ -120,5 +85,5 @@ pub fn named_by(log: &[u8], k: usize, row: Row) -> Row
     ensures { λ r. ⌜ r ≡ coded (rowIn (now (log .entry)) k (undoneBy (meant row))) ⌝ }
 {
     let n = undone_by(row);
-    row_in_log(log, k, n.0 as usize)
+    row_of_part(log, 0, k, n.0 as usize)
 }

@@ -5,7 +5,10 @@ ghost use Prim.Native.Nat.{ℕ, _+_, _-_, _≤_};
 ghost use lib.ListN.{length};
 ghost use lib.IntN.{pos};
 ghost use Rattle.book.specs.Book.{answer};
+ghost use Rattle.book.specs.Limits.{rowLimit, chartsLength, tailLimit};
 ghost use Rattle.state.specs.Answers.{numberAndValue, refusal, caseOf};
+ghost use Rattle.tables_model.specs.Layout.{flatLength, visitsLength};
+ghost use Rattle.state.specs.World.{tailLength};
 ghost use Rattle.undo.specs.Writing.{ram};
 ghost use Rattle.recovery_model.specs.Checking.{Lengths, Recovers, found};
 ghost use Rattle.recovery_model.specs.Answering.{OpenOutcome};
@@ -21,6 +24,7 @@ use journal::writes::clear;
 use recovery_model::LogScan;
 use recovery_model::Reason;
 use rows::Lsn;
+use rows::limits::PAGE_LIMIT;
 use state::answers::Answer;
 use state::ram::Fuse;
 use state::ram::Phase;
@@ -29,7 +33,7 @@ use undo::clear::clear_ram;
 
 // The rows that an opening wrote after the first `rows`.
 fn rows_written(c: Control, rows: usize) -> u16
-    requires { ⌜ c .stored + c .waiting ≤ 4096 ⌝ }
+    requires { ⌜ c .stored + c .waiting ≤ rowLimit ⌝ }
     ensures { λ r. ⌜ r ≡ c .stored + c .waiting - rows ⌝ }
 {
     let all = c.stored + c.waiting;
@@ -46,8 +50,8 @@ fn settle(
     visits: &mut [u16],
     scopes: &mut [u16],
 ) -> Outcome
-    requires { ⌜ (c .waiting ≤ 64) × (c .stored + c .waiting ≤ 4096) ⌝ }
-    requires { ⌜ (length (now copy) ≡ 1024) × (length (now tail) ≡ 1024) × (length (now visits) ≡ 32) × (length (now scopes) ≡ 448) ⌝ }
+    requires { ⌜ (c .waiting ≤ tailLimit) × (c .stored + c .waiting ≤ rowLimit) ⌝ }
+    requires { ⌜ (length (now copy) ≡ chartsLength) × (length (now tail) ≡ tailLength) × (length (now visits) ≡ visitsLength) × (length (now scopes) ≡ flatLength) ⌝ }
     ensures { λ r. ⌜ ((log charts : List ℕ) → OpenOutcome (settledOpening rows begun (ram c log (now (tail .entry)) (now (copy .entry))) charts)
         r log charts (now (copy .exit)) (now (tail .exit)) (now (visits .exit)) (now (scopes .exit))) ⌝ }
 {
@@ -85,7 +89,7 @@ fn recover(
     scopes: &mut [u16],
 ) -> Outcome
     requires { ⌜ Recovers s (length (now log)) (length (now copy)) (length (now tail)) (length (now visits)) (length (now scopes)) ⌝ }
-    requires { ⌜ length (now charts) ≡ 1024 ⌝ }
+    requires { ⌜ length (now charts) ≡ chartsLength ⌝ }
     ensures { λ r. ⌜ OpenOutcome (recoveredBy fuse (now (log .entry)) (now (charts .entry)) (found s (now (visits .entry)) (now (scopes .entry))))
         r (now (log .exit)) (now (charts .entry)) (now (copy .exit)) (now (tail .exit)) (now (visits .exit)) (now (scopes .exit)) ⌝ }
 {
@@ -121,7 +125,7 @@ fn open_scanned(
     scopes: &mut [u16],
 ) -> Outcome
     requires { ⌜ Recovers s (length (now log)) (length (now copy)) (length (now tail)) (length (now visits)) (length (now scopes)) ⌝ }
-    requires { ⌜ (s .bad ≤ 4096) × (length (now charts) ≡ 1024) ⌝ }
+    requires { ⌜ (s .bad ≤ rowLimit) × (length (now charts) ≡ chartsLength) ⌝ }
     ensures { λ r. ⌜ OpenOutcome (checkedBy fuse (now (log .entry)) (now (charts .entry)) (found s (now (visits .entry)) (now (scopes .entry))))
         r (now (log .exit)) (now (charts .entry)) (now (copy .exit)) (now (tail .exit)) (now (visits .exit)) (now (scopes .exit)) ⌝ }
 {
@@ -132,7 +136,7 @@ fn open_scanned(
         return clear_ram(copy, tail, visits, scopes, answer);
     }
     let p = bad_page(log, s.rows, charts);
-    if p < 32 {
+    if p < PAGE_LIMIT {
         return clear_ram(copy, tail, visits, scopes, Answer::BadPage(p as u8));
     }
     recover(fuse, s, log, charts, copy, tail, visits, scopes)

@@ -7,12 +7,12 @@ ghost use lib.Dec.{eqb};
 ghost use Rattle.book.specs.Rows.{effect};
 ghost use Rattle.book.specs.RowBytes.{rowOf};
 ghost use Rattle.book.specs.Cells.{touches, onPage};
+ghost use Rattle.book.specs.Limits.{rowLength, pageLimit, pageLength, places, chartsLength};
 ghost use Rattle.rows.specs.Meaning.{effectMeant};
 ghost use Rattle.recovery_model.specs.Scan.{rowIn};
 ghost use Rattle.recovery_model.specs.Checking.{Rows};
 ghost use Rattle.recovery_model.specs.Charts.{isPageBy, badPageBy, redoFrom, redoPage, redoCharts};
 ghost use Rattle.recovery_model.specs.Forward.{pageWith};
-use crate::look::row_in_log;
 use charts::check::page_ok;
 use charts::page::move_place;
 use charts::page::read_mark;
@@ -20,17 +20,25 @@ use rows::Cell;
 use rows::Effect;
 use rows::Lsn;
 use rows::effects::effect_of;
+use rows::limits::PAGE_LENGTH;
+use rows::limits::PAGE_LIMIT;
+use rows::limits::PLACES;
+use rows::limits::ROW_LENGTH;
 use rows::numbers::index;
 use rows::reader::row_in;
 use std::num::wrapping_sub_u8;
+use undo::look::row_of_part;
+
+// The cells of a page as a number of a cell's type.
+const CELLS_OF_PAGE: u8 = PLACES as u8;
 
 // ── The check ─────────────────────────────────────────────────────────────────────────────────────────────────────────
 
 // The cell is on page p.
 fn is_on_page(c: Cell, p: usize) -> bool
-    ensures { λ r. ⌜ r ≡ eqb (c .0 / 7) p ⌝ }
+    ensures { λ r. ⌜ r ≡ eqb (c .0 / places) p ⌝ }
 {
-    index(c.0) / 7 == p
+    index(c.0) / PLACES == p
 }
 
 // The effect is on a cell of page p.
@@ -52,14 +60,14 @@ fn mark_ok(log: &[u8], rows: usize, p: usize, mark: Lsn) -> bool
     if mark.0 == 0 {
         return true;
     }
-    let row = row_in_log(log, rows, mark.0 as usize);
+    let row = row_of_part(log, 0, rows, mark.0 as usize);
     touches_page(effect_of(row), p)
 }
 
 // Page p, by its bytes and the log.
 fn page_passes(log: &[u8], rows: usize, page: &[u8], p: usize) -> bool
     requires { ⌜ Rows (length (now log)) rows ⌝ }
-    requires { ⌜ length (now page) ≡ 32 ⌝ }
+    requires { ⌜ length (now page) ≡ pageLength ⌝ }
     ensures { λ r. ⌜ r ≡ isPageBy (now (log .entry)) rows p (now (page .entry)) ⌝ }
 {
     let mark = read_mark(page);
@@ -70,13 +78,13 @@ fn page_passes(log: &[u8], rows: usize, page: &[u8], p: usize) -> bool
 // The first page that fails, or 32.
 pub fn bad_page(log: &[u8], rows: usize, charts: &[u8]) -> usize
     requires { ⌜ Rows (length (now log)) rows ⌝ }
-    requires { ⌜ length (now charts) ≡ 1024 ⌝ }
+    requires { ⌜ length (now charts) ≡ chartsLength ⌝ }
     ensures { λ r. ⌜ r ≡ badPageBy (now (log .entry)) rows (now (charts .entry)) ⌝ }
 {
     let mut p: usize = 0;
-    while p < 32 {
-        let a = 32 * p;
-        let e = a + 32;
+    while p < PAGE_LIMIT {
+        let a = PAGE_LENGTH * p;
+        let e = a + PAGE_LENGTH;
         if page_passes(log, rows, &charts[a..e], p) {
             p += 1;
         } else {
@@ -90,20 +98,20 @@ pub fn bad_page(log: &[u8], rows: usize, charts: &[u8]) -> usize
 
 // The effect of row n on the page of its cell.
 fn move_page(page: &mut [u8], effect: Effect, n: Lsn)
-    requires { ⌜ length (now page) ≡ 32 ⌝ }
+    requires { ⌜ length (now page) ≡ pageLength ⌝ }
     ensures { λ _. ⌜ now (page .exit) ≡ pageWith (effectMeant effect) (n .0) (now (page .entry)) ⌝ }
 {
     match effect {
         Effect::Nothing => {}
-        Effect::Adds(c, a) => move_place(page, index(c.0) % 7, a, false, n),
-        Effect::Subtracts(c, a) => move_place(page, index(c.0) % 7, a, true, n),
+        Effect::Adds(c, a) => move_place(page, index(c.0) % PLACES, a, false, n),
+        Effect::Subtracts(c, a) => move_place(page, index(c.0) % PLACES, a, true, n),
     }
 }
 
 // The effect of row n, 16 bytes, on the page of its cell.
 fn redo_row(b: &[u8], page: &mut [u8], n: Lsn)
-    requires { ⌜ length (now b) ≡ 16 ⌝ }
-    requires { ⌜ length (now page) ≡ 32 ⌝ }
+    requires { ⌜ length (now b) ≡ rowLength ⌝ }
+    requires { ⌜ length (now page) ≡ pageLength ⌝ }
     ensures { λ _. ⌜ now (page .exit) ≡ pageWith (effect (rowOf (now (b .entry)))) (n .0) (now (page .entry)) ⌝ }
 {
     let row = row_in(b);
@@ -113,16 +121,16 @@ fn redo_row(b: &[u8], page: &mut [u8], n: Lsn)
 // The rows from place `from` on, up to row `rows`, applied to page p. Most rows are of other pages: one comparison of the cell rules them out.
 fn redo_rows(log: &[u8], from: usize, rows: usize, page: &mut [u8], p: usize)
     requires { ⌜ Rows (length (now log)) rows ⌝ }
-    requires { ⌜ length (now page) ≡ 32 ⌝ }
-    requires { ⌜ p < 32 ⌝ }
+    requires { ⌜ length (now page) ≡ pageLength ⌝ }
+    requires { ⌜ p < pageLimit ⌝ }
     ensures { λ _. ⌜ now (page .exit) ≡ redoFrom (rows - from) from (now (log .entry)) p (now (page .entry)) ⌝ }
 {
-    let lowest = (7 * p) as u8;
+    let lowest = (PLACES * p) as u8;
     let mut k = from;
     while k < rows {
-        let a = 16 * k;
-        if wrapping_sub_u8(log[a + 3], lowest) < 7 {
-            let e = a + 16;
+        let a = ROW_LENGTH * k;
+        if wrapping_sub_u8(log[a + 3], lowest) < CELLS_OF_PAGE {
+            let e = a + ROW_LENGTH;
             redo_row(&log[a..e], page, Lsn((k + 1) as u16));
         }
         k += 1;
@@ -132,8 +140,8 @@ fn redo_rows(log: &[u8], from: usize, rows: usize, page: &mut [u8], p: usize)
 // The rows above the page's mark.
 fn redo_page(log: &[u8], rows: usize, page: &mut [u8], p: usize)
     requires { ⌜ Rows (length (now log)) rows ⌝ }
-    requires { ⌜ length (now page) ≡ 32 ⌝ }
-    requires { ⌜ p < 32 ⌝ }
+    requires { ⌜ length (now page) ≡ pageLength ⌝ }
+    requires { ⌜ p < pageLimit ⌝ }
     ensures { λ _. ⌜ now (page .exit) ≡ redoPage (now (log .entry)) rows p (now (page .entry)) ⌝ }
 {
     let mark = read_mark(page);
@@ -143,13 +151,13 @@ fn redo_page(log: &[u8], rows: usize, page: &mut [u8], p: usize)
 // All pages of the copy.
 pub fn redo(log: &[u8], rows: usize, copy: &mut [u8])
     requires { ⌜ Rows (length (now log)) rows ⌝ }
-    requires { ⌜ length (now copy) ≡ 1024 ⌝ }
+    requires { ⌜ length (now copy) ≡ chartsLength ⌝ }
     ensures { λ _. ⌜ now (copy .exit) ≡ redoCharts (now (log .entry)) rows (now (copy .entry)) ⌝ }
 {
     let mut p: usize = 0;
-    while p < 32 {
-        let a = 32 * p;
-        let e = a + 32;
+    while p < PAGE_LIMIT {
+        let a = PAGE_LENGTH * p;
+        let e = a + PAGE_LENGTH;
         redo_page(log, rows, &mut copy[a..e], p);
         p += 1;
     }

@@ -4,6 +4,8 @@ ghost use Prim.Native.Nat.{_-_};
 ghost use lib.ListN.{length};
 ghost use Rattle.rows.specs.Meaning.{meant};
 ghost use Rattle.book.specs.Rows.{undoneBy};
+ghost use Rattle.book.specs.Limits.{rowLimit, logLength};
+ghost use Rattle.tables_model.specs.Layout.{flatLength, visitsLength};
 ghost use Rattle.tables_model.specs.Rows.{Ready, index, judgeBy};
 ghost use Rattle.recovery_model.specs.Scan.{rowIn, ruled, judgeRow, scanFrom, firstSet, scanned};
 ghost use Rattle.recovery_model.specs.Checking.{Next, judgement, found};
@@ -17,6 +19,8 @@ use recovery_model::Reason;
 use rows::Lsn;
 use rows::Read;
 use rows::Row;
+use rows::limits::ROW_LENGTH;
+use rows::limits::ROW_LIMIT;
 use rows::reader::is_blank;
 use rows::reader::read_row;
 use tables::entries::clear;
@@ -70,8 +74,8 @@ fn judge_row(log: &[u8], k: usize, t: Counts, visits: &mut [u16], scopes: &mut [
     ensures { λ r. ⌜ judgement r (now (visits .exit)) (now (scopes .exit))
         ≡ judgeRow (now (log .entry)) k (index t (now (visits .entry)) (now (scopes .entry))) ⌝ }
 {
-    let a = 16 * k;
-    let e = a + 16;
+    let a = ROW_LENGTH * k;
+    let e = a + ROW_LENGTH;
     let read = read_row(&log[a..e], Lsn((k + 1) as u16));
     match read {
         Read::Valid(row) => take_row(log, k, t, visits, scopes, row),
@@ -92,14 +96,14 @@ fn judge_row(log: &[u8], k: usize, t: Counts, visits: &mut [u16], scopes: &mut [
 
 // The rows up to the first that is blank or bad.
 fn scan_rows(log: &[u8], first: Counts, visits: &mut [u16], scopes: &mut [u16]) -> LogScan
-    requires { ⌜ length (now log) ≡ 65536 ⌝ }
+    requires { ⌜ length (now log) ≡ logLength ⌝ }
     requires { ⌜ Ready first (length (now visits)) (length (now scopes)) ⌝ }
     ensures { λ r. ⌜ found r (now (visits .exit)) (now (scopes .exit))
-        ≡ scanFrom 4096 0 (now (log .entry)) (index first (now (visits .entry)) (now (scopes .entry))) ⌝ }
+        ≡ scanFrom rowLimit 0 (now (log .entry)) (index first (now (visits .entry)) (now (scopes .entry))) ⌝ }
 {
     let mut t = first;
     let mut k: usize = 0;
-    while k < 4096 {
+    while k < ROW_LIMIT {
         let r = judge_row(log, k, t, visits, scopes);
         let judged = r.judged;
         let next = r.counts;
@@ -136,13 +140,13 @@ fn scan_rows(log: &[u8], first: Counts, visits: &mut [u16], scopes: &mut [u16]) 
 
 // The first row from place k on that is not blank, counted from 1; 0 for none.
 fn first_set(log: &[u8], k: usize) -> usize
-    requires { ⌜ length (now log) ≡ 65536 ⌝ }
-    ensures { λ r. ⌜ r ≡ firstSet (4096 - k) k (now (log .entry)) ⌝ }
+    requires { ⌜ length (now log) ≡ logLength ⌝ }
+    ensures { λ r. ⌜ r ≡ firstSet (rowLimit - k) k (now (log .entry)) ⌝ }
 {
     let mut i = k;
-    while i < 4096 {
-        let a = 16 * i;
-        let e = a + 16;
+    while i < ROW_LIMIT {
+        let a = ROW_LENGTH * i;
+        let e = a + ROW_LENGTH;
         if is_blank(&log[a..e]) {
             i += 1;
         } else {
@@ -154,8 +158,8 @@ fn first_set(log: &[u8], k: usize) -> usize
 
 // The whole log: all rows, then zero bytes to the end. Both tables are cleared first.
 pub fn scan_log(log: &[u8], visits: &mut [u16], scopes: &mut [u16]) -> LogScan
-    requires { ⌜ length (now log) ≡ 65536 ⌝ }
-    requires { ⌜ (length (now visits) ≡ 32) × (length (now scopes) ≡ 448) ⌝ }
+    requires { ⌜ length (now log) ≡ logLength ⌝ }
+    requires { ⌜ (length (now visits) ≡ visitsLength) × (length (now scopes) ≡ flatLength) ⌝ }
     ensures { λ r. ⌜ found r (now (visits .exit)) (now (scopes .exit)) ≡ scanned (now (log .entry)) noIndex ⌝ }
 {
     clear(visits);

@@ -27,8 +27,8 @@ use Rattle.state.specs.declared.ram.Fuse.the-variants.{Unlimited, Left}
 use Rattle.state.specs.World.{fuseOf, allowance}
 use Rattle.tables_model.specs.declared.Active.{Active}
 use Rattle.tables_model.specs.declared.Whom.the-variants.{All}
-use Rattle.tables_model.specs.Visits.{vacant}
-use Rattle.tables_model.specs.Meaning.{activeOf, tablesOf, scopeTable, indexOf}
+use Rattle.tables_model.specs.Meaning.{vacant, activeOf, tablesOf, scopeTable}
+use Rattle.tables_model.specs.Lookup.{indexOf}
 use Rattle.journal.specs.Journal.{forced}
 use Rattle.journal.specs.Meaning.{controlOf, journalOf}
 use Rattle.undo.specs.Writing.{Ram, written}
@@ -37,7 +37,7 @@ use Rattle.undo.proofs.Steady.{Steady, steady-add, steady-all, was-open, add-le
 use Rattle.undo.proofs.RowWritten.{Stands, written-stands, forced-stands}
 use Rattle.undo.proofs.FewChanges.{open-few}
 use Rattle.undo.proofs.ChangesFall.{TakingStands, changes-fall}
-use Rattle.recovery_model.specs.Backward.{abortAll, starting, backward}
+use Rattle.recovery_model.specs.Backward.{abortAll, startingBy, backward}
 
 -- ── The abort rows ────────────────────────────────────────────────────────────────────────────────────────────────────
 
@@ -89,7 +89,7 @@ module _ (cells : ℕ → ℤ) where
     xs = openHeld everyone (ledger rs)
 
     start : Taking
-    start = record { ram = starting f (length rs) (logBytes rs) copy; scopes = scopeTable (ledger rs) }
+    start = record { ram = startingBy f (length rs) (logBytes rs) copy; scopes = scopeTable (ledger rs) }
 
     ledger-is : ledgerOf (book.starting (allowance f) rs) ≡ ledger rs
     ledger-is = ap ledger (append-nil rs)

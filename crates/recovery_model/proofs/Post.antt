@@ -28,8 +28,8 @@ use Rattle.book.proofs.OpenBytes.{open-bytes}
 use Rattle.book.proofs.ReopenedBytes.{open-passed}
 use Rattle.state.specs.declared.ram.Fuse.{Fuse}
 use Rattle.state.specs.World.{World, rightLengths, allowance, stateOf, tableOf, cleared}
-use Rattle.state.specs.Contracts.{answered, openedWorld, opens, OpenPost}
-use Rattle.tables_model.specs.Meaning.{indexOf}
+use Rattle.state.specs.Contracts.{answered, openedWorld, opens}
+use Rattle.tables_model.specs.Lookup.{indexOf}
 use Rattle.recovery_model.specs.Scan.{numberOfReason, Scanned, scanned}
 use Rattle.recovery_model.specs.Charts.{badPageBy, redoCharts}
 use Rattle.recovery_model.specs.Backward.{backward}
@@ -122,7 +122,3 @@ opens-by f w bytes = go (rightLengths w) refl
         let charts : eqb (length (w .charts)) chartsLength ≡ true = search (and-l, and-r) in
         any-log f (w .charts) (eqb-true (length (w .charts)) chartsLength charts) bytes (w .log) (eqb-true (length (w .log)) logLength log)
     go false e = refl
-
--- so what it gives back and leaves is as the contract says
-pub opens-post : (f : Fuse) (w : World) → AreBytes (w .charts) → OpenPost (allowance f) w (opensBy f w)
-opens-post f w bytes = record { is = opens-by f w bytes }

@@ -25,9 +25,8 @@ use Rattle.rows.specs.Reading.{readBy, readOf, isBlank}
 use Rattle.rows.proofs.Meanings.{meant-coded}
 use Rattle.rows.proofs.RoundTrip.{read-blank, read-zero, read-kind}
 use Rattle.tables_model.specs.declared.Verdict.the-variants.{Allowed, Unlawful, OverLimit}
-use Rattle.tables_model.specs.Visits.{noTables}
 use Rattle.tables_model.specs.Rows.{Index, judgeBy}
-use Rattle.tables_model.specs.Meaning.{indexOf}
+use Rattle.tables_model.specs.Lookup.{indexOf}
 use Rattle.tables_model.proofs.Judge.{judge-by}
 use Rattle.tables_model.proofs.Step.{step-by}
 use Rattle.tables_model.proofs.Simulation.{index-empty}
@@ -251,7 +250,7 @@ scan-finds (suc m) rs al log bs is h =
 -- ── The log ───────────────────────────────────────────────────────────────────────────────────────────────────────────
 
 log-finds : (log : List ℕ) → Finds [] (scanned log noIndex) (readLog log)
-unfolding scanned readLog noTables
+unfolding scanned readLog
 log-finds log = start rowLimit refl noIndex index-empty
   where
     start : (m : ℕ) → 0 + m ≡ rowLimit → (x : Index) → indexOf empty ≡ x → Finds [] (ended log (scanFrom m 0 log x)) (readRows m 1 empty log)

@@ -8,7 +8,7 @@ use mathlib.Core.List.{List, [], _++_, map, reverse, append-nil}
 use lib.ListN.{length, length-append, replicate}
 use lib.IntN.{ℤ, pos}
 use lib.Dec.{eqb}
-use Rattle.tables_model.specs.Entries.{scopeOf}
+use Rattle.tables_model.specs.Meaning.{scopeOf, vacant, activeOf, tablesOf, scopeTable}
 use Rattle.book.specs.Lists.{padTo}
 use Rattle.book.specs.Limits.{activeLimit, scopeLimit}
 use Rattle.book.specs.Rows.{Row}
@@ -32,8 +32,6 @@ use Rattle.state.specs.Contracts.{Answered, answered, openedWorld}
 use Rattle.state.specs.declared.ram.Phase.the-variants.{Open}
 use Rattle.tables_model.specs.declared.Scope as lent
 use Rattle.tables_model.specs.declared.Tables.{Tables}
-use Rattle.tables_model.specs.Visits.{vacant}
-use Rattle.tables_model.specs.Meaning.{activeOf, tablesOf, scopeTable}
 use Rattle.journal.specs.Journal.{Journal}
 use Rattle.journal.specs.Meaning.{controlOf, journalOf}
 use Rattle.undo.specs.Writing.{Ram}

@@ -3,10 +3,10 @@ use Prim.Native.Nat.{ℕ, _≤_, _<_}
 use mathlib.Core.Path.{_≡_}
 use mathlib.Core.List.{List}
 use Rattle.book.specs.Limits.{rowLimit, logLength, chartsLength}
-use Rattle.tables_model.specs.Visits.{visitsLength, InRange}
-use Rattle.tables_model.specs.Entries.{flatLength}
+use Rattle.tables_model.specs.Visits.{InRange}
+use Rattle.tables_model.specs.Layout.{visitsLength, flatLength}
 use Rattle.tables_model.specs.Rows.{index}
-use Rattle.journal.specs.Outcomes.{tailLength}
+use Rattle.state.specs.World.{tailLength}
 use Rattle.recovery_model.specs.declared.JudgedRow.{JudgedRow}
 use Rattle.recovery_model.specs.declared.LogScan.{LogScan}
 use Rattle.recovery_model.specs.Scan.{Judgement, Scanned}

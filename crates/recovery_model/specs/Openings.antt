@@ -5,14 +5,13 @@ use mathlib.Core.List.{List}
 use lib.ListN.{replicate}
 use lib.IntN.{pos}
 use lib.Dec.{eqb, ltb}
-use Rattle.tables_model.specs.Entries.{scopeOf}
+use Rattle.tables_model.specs.Meaning.{scopeOf, noTables, vacant}
 use Rattle.book.specs.Limits.{activeLimit, scopeLimit, pageLimit}
 use Rattle.book.specs.Scopes.{unused}
 use Rattle.state.specs.declared.ram.Fuse.{Fuse}
-use Rattle.state.specs.World.{World, rightLengths, cleared, noTables}
+use Rattle.state.specs.World.{World, rightLengths, cleared}
 use Rattle.state.specs.Contracts.{Answered, answered}
 use Rattle.tables_model.specs.declared.Tables.{Tables}
-use Rattle.tables_model.specs.Visits.{vacant}
 use Rattle.tables_model.specs.Rows.{Index}
 use Rattle.journal.specs.Journal.{Journal}
 use Rattle.undo.specs.Writing.{Ram, rowCount, isRunning}

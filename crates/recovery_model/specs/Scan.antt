@@ -13,7 +13,7 @@ use Rattle.rows.specs.Reading.{readOf, isBlank}
 use Rattle.tables_model.specs.declared.Verdict.{Verdict}
 use Rattle.tables_model.specs.declared.Verdict.the-variants.{Allowed, Unlawful, OverLimit}
 use Rattle.tables_model.specs.Rows.{Index, judgeBy, stepBy}
-use Rattle.tables_model.specs.Meaning.{beforeUndone}
+use Rattle.tables_model.specs.Lookup.{beforeUndone}
 use Rattle.undo.specs.Looking.{rowBytesAt}
 use Rattle.recovery_model.specs.declared.Reason.{Reason}
 use Rattle.recovery_model.specs.declared.Reason.the-variants.{Bytes, Rule, Limit}

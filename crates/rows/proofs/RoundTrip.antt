@@ -11,11 +11,11 @@ use Rattle.book.specs.Rows.{isVisit, isCell, fits}
 use Rattle.book.specs.RowBytes.{kindOf, rowBytes, rowOf, isRowBytes}
 use Rattle.book.proofs.Lists.{and-i, is-false}
 use Rattle.book.proofs.RowBytes.{eqBytes-true, row-kind, kind-known, row-back, row-bytes, row-exact}
-use Rattle.rows.specs.Meaning.{meant, coded, narrowed}
+use Rattle.rows.specs.Meaning.{meant, coded}
 use Rattle.rows.specs.Reading.{isBlank, readBy, readOf}
 use Rattle.rows.specs.declared.Row.{Row}
 use Rattle.rows.specs.declared.Read.the-variants.{Valid, Blank, Malformed}
-use Rattle.rows.proofs.Meanings.{meant-coded, coded-meant, narrowed-fits}
+use Rattle.rows.proofs.Meanings.{meant-coded, coded-meant}
 
 -- ── Blank bytes have kind 0, and a row's bytes have not ───────────────────────────────────────────────────────────────
 
@@ -61,10 +61,6 @@ pub read-written : (n : ℕ) (r : Row) → fits (meant r) ≡ true → readOf n 
 read-written n r f =
     read-kind n (rowBytes n (meant r)) (row-not-zero n (meant r)) ∙
     rw (row-bytes n (meant r) f, row-back n (meant r) f, f) (ap Valid (coded-meant r))
-
--- so what the writer leaves of a row that fits is read as that row
-pub read-back : (n : ℕ) (r : Row) → fits (meant r) ≡ true → readOf n (rowBytes n (narrowed (meant r))) ≡ Valid r
-read-back n r f = rw (narrowed-fits (meant r) f) (read-written n r f)
 
 -- the bytes are those of row n, and its fields are in their ranges
 pub record IsRow (n : ℕ) (bs : List ℕ) (r : Row) : Type 0 where

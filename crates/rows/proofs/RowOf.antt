@@ -9,7 +9,6 @@ use Rattle.book.specs.Numbers.{signed}
 use Rattle.book.specs.Rows as book
 use Rattle.book.specs.RowBytes.{rowOfKind, rowOf}
 use Rattle.rows.specs.Meaning.{coded}
-use Rattle.rows.specs.declared.Row.{Row}
 
 -- the row of kind k with the fields that the bytes hold
 abbrev pub rowAs : ℕ → List ℕ → book.Row

@@ -40,11 +40,6 @@ pub up-bits : (x : ℤ) → SFits w16 x → up x % 65536 ≡ bitsOf 16 x
 up-bits (pos n) f = omega arith
 up-bits (negsuc n) f = omega arith
 
--- the bits that the machine holds are the book's
-pub bits-are : (x : ℤ) → SFits w16 x → ofZ w16 x ≡ bitsOf 16 x
-bits-are (pos n) f = omega arith
-bits-are (negsuc n) f = omega arith
-
 -- ── The signed number of bits ─────────────────────────────────────────────────────────────────────────────────────────
 
 pub lower-half : (n : ℕ) → n < 32768 → toZ w16 n ≡ signed 16 n

@@ -1,6 +1,7 @@
 // Rows of the log (document 01, "The store"): the numbers of rows, visits and cells, what a row is, what its 16 bytes
 // are read as, and what it does to the charts.
 pub mod effects;
+pub mod limits;
 pub mod numbers;
 pub mod ranges;
 pub mod reader;

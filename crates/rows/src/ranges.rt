@@ -6,32 +6,33 @@ use crate::Cell;
 use crate::Lsn;
 use crate::Row;
 use crate::Visit;
+use crate::limits::CELL_LIMIT;
+use crate::limits::ROW_LIMIT;
+use crate::limits::VISIT_LIMIT;
 
-// The greatest visit number that a row has a byte for.
-pub const VISIT_LIMIT: u16 = 255;
+// The limits as numbers of the fields' types.
+pub const VISITS: u16 = VISIT_LIMIT as u16;
 
-// Cells are numbered below this.
-pub const CELL_LIMIT: u8 = 224;
+const CELLS: u8 = CELL_LIMIT as u8;
 
-// Rows are numbered from 1 to this.
-pub const ROW_LIMIT: u16 = 4096;
+const ROWS: u16 = ROW_LIMIT as u16;
 
 pub fn is_visit(v: Visit) -> bool
     ensures { λ r. ⌜ r ≡ isVisit (v .0) ⌝ }
 {
-    if 1 <= v.0 { v.0 <= VISIT_LIMIT } else { false }
+    if 1 <= v.0 { v.0 <= VISITS } else { false }
 }
 
 pub fn is_cell(c: Cell) -> bool
     ensures { λ r. ⌜ r ≡ isCell (c .0) ⌝ }
 {
-    c.0 < CELL_LIMIT
+    c.0 < CELLS
 }
 
 pub fn is_row_number(n: Lsn) -> bool
     ensures { λ r. ⌜ r ≡ isRowNumber (n .0) ⌝ }
 {
-    if 1 <= n.0 { n.0 <= ROW_LIMIT } else { false }
+    if 1 <= n.0 { n.0 <= ROWS } else { false }
 }
 
 // Every field is within its range.

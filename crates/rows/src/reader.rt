@@ -3,6 +3,7 @@
 ghost use mathlib.Core.Path.{_≡_};
 ghost use lib.ListN.{length};
 ghost use Rattle.book.specs.RowBytes.{isRowBytes, rowOf};
+ghost use Rattle.book.specs.Limits.{rowLength};
 ghost use Rattle.rows.specs.Meaning.{coded};
 ghost use Rattle.rows.specs.Reading.{isBlank, readOf};
 use crate::Cell;
@@ -10,17 +11,17 @@ use crate::Lsn;
 use crate::Read;
 use crate::Row;
 use crate::Visit;
+use crate::limits::KIND_LIMIT;
 use crate::numbers::index;
 use crate::numbers::signed;
 use crate::numbers::wide;
 use crate::numbers::word;
 use crate::ranges::in_range;
-use crate::table::KIND_LIMIT;
 use crate::table::is_as_table;
 
 // All 16 bytes are zero.
 pub fn is_blank(b: &[u8]) -> bool
-    requires { ⌜ length (now b) ≡ 16 ⌝ }
+    requires { ⌜ length (now b) ≡ rowLength ⌝ }
     ensures { λ r. ⌜ r ≡ isBlank (now (b .entry)) ⌝ }
 {
     is_as_table(b, 0)
@@ -28,7 +29,7 @@ pub fn is_blank(b: &[u8]) -> bool
 
 // The bytes are those of a row n: a known kind, zero where the table says so, and the row's own number.
 pub fn has_row_bytes(b: &[u8], n: Lsn) -> bool
-    requires { ⌜ length (now b) ≡ 16 ⌝ }
+    requires { ⌜ length (now b) ≡ rowLength ⌝ }
     ensures { λ r. ⌜ r ≡ isRowBytes (n .0) (now (b .entry)) ⌝ }
 {
     let kind = index(b[0]);
@@ -47,7 +48,7 @@ pub fn has_row_bytes(b: &[u8], n: Lsn) -> bool
 
 // The row that the bytes would be, by their kind, whatever the others are.
 pub fn row_in(b: &[u8]) -> Row
-    requires { ⌜ length (now b) ≡ 16 ⌝ }
+    requires { ⌜ length (now b) ≡ rowLength ⌝ }
     ensures { λ r. ⌜ r ≡ coded (rowOf (now (b .entry))) ⌝ }
 {
     let visit = Visit(wide(b[1]));
@@ -65,7 +66,7 @@ pub fn row_in(b: &[u8]) -> Row
 
 // What the bytes of row n are. Most are a row's, so that test comes first.
 pub fn read_row(b: &[u8], n: Lsn) -> Read
-    requires { ⌜ length (now b) ≡ 16 ⌝ }
+    requires { ⌜ length (now b) ≡ rowLength ⌝ }
     ensures { λ r. ⌜ r ≡ readOf (n .0) (now (b .entry)) ⌝ }
 {
     if has_row_bytes(b, n) {

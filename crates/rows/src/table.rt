@@ -6,15 +6,14 @@ ghost use lib.Dec.{eqb};
 ghost use Prim.Native.Nat.{_≤_};
 ghost use lib.ListN.{length, getD};
 ghost use mathlib.Core.List.{[]};
-ghost use Rattle.book.specs.Limits.{kindLimit};
+ghost use Rattle.book.specs.Limits.{kindLimit, rowLength};
 ghost use Rattle.book.specs.RowBytes.{mayBeSet};
 ghost use Rattle.rows.specs.Table.{asTable, okByte, masked, fill};
-
-// The greatest kind of a row.
-pub(crate) const KIND_LIMIT: usize = 6;
+use crate::limits::KIND_LIMIT;
+use crate::limits::ROW_LENGTH;
 
 // Kind 0 is a blank row.
-const MAY_BE: [[u8; 16]; KIND_LIMIT + 1] = [
+const MAY_BE: [[u8; ROW_LENGTH]; KIND_LIMIT + 1] = [
     [0, 0, 0, 0, 0, 0, 0, 0, 0, 0, 0, 0, 0, 0, 0, 0],
     [1, 1, 0, 0, 1, 1, 0, 0, 0, 0, 0, 0, 0, 0, 0, 0],
     [1, 1, 0, 1, 1, 1, 0, 0, 1, 1, 0, 0, 0, 0, 0, 0],
@@ -25,7 +24,7 @@ const MAY_BE: [[u8; 16]; KIND_LIMIT + 1] = [
 ];
 
 // The table's line of a kind. Each arm is a constant to the compiler; indexed by a variable, the whole table would be stored to the stack first.
-fn line_of(kind: usize) -> [u8; 16]
+fn line_of(kind: usize) -> [u8; ROW_LENGTH]
     requires { ⌜ kind ≤ kindLimit ⌝ }
     ensures { λ r. ⌜ r ≡ getD mayBeSet kind [] ⌝ }
 {
@@ -57,13 +56,13 @@ fn gather_wrong(wrong: u8, m: u8, x: u8) -> u8
 // Each byte that is to be zero in a row of kind `kind` is zero. Wrong bits are gathered, with no way out of the loop before its end: so it compiles to a few
 // instructions for all 16 bytes, and an opening goes over the whole log by it.
 pub(crate) fn is_as_table(b: &[u8], kind: usize) -> bool
-    requires { ⌜ (kind ≤ kindLimit) × (length (now b) ≡ 16) ⌝ }
-    ensures { λ r. ⌜ r ≡ asTable 16 0 kind (now (b .entry)) ⌝ }
+    requires { ⌜ (kind ≤ kindLimit) × (length (now b) ≡ rowLength) ⌝ }
+    ensures { λ r. ⌜ r ≡ asTable rowLength 0 kind (now (b .entry)) ⌝ }
 {
     let line = line_of(kind);
     let mut wrong: u8 = 0;
     let mut i: usize = 0;
-    while i < 16 {
+    while i < ROW_LENGTH {
         wrong = gather_wrong(wrong, line[i], b[i]);
         i += 1;
     }
@@ -71,13 +70,13 @@ pub(crate) fn is_as_table(b: &[u8], kind: usize) -> bool
 }
 
 // Sets b to the bytes of `f` that a row of kind `kind` may have, and zeros.
-pub(crate) fn put_by_table(b: &mut [u8], kind: usize, f: &[u8; 16])
-    requires { ⌜ (kind ≤ kindLimit) × (length (now b) ≡ 16) ⌝ }
-    ensures { λ _. ⌜ now (b .exit) ≡ fill 16 0 kind (now (f .entry)) (now (b .entry)) ⌝ }
+pub(crate) fn put_by_table(b: &mut [u8], kind: usize, f: &[u8; ROW_LENGTH])
+    requires { ⌜ (kind ≤ kindLimit) × (length (now b) ≡ rowLength) ⌝ }
+    ensures { λ _. ⌜ now (b .exit) ≡ fill rowLength 0 kind (now (f .entry)) (now (b .entry)) ⌝ }
 {
     let line = line_of(kind);
     let mut i: usize = 0;
-    while i < 16 {
+    while i < ROW_LENGTH {
         b[i] = byte_or_zero(line[i], f[i]);
         i += 1;
     }

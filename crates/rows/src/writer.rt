@@ -2,7 +2,7 @@
 ghost use mathlib.Core.Path.{_≡_};
 ghost use Prim.Native.Nat.{_≤_};
 ghost use lib.ListN.{length};
-ghost use Rattle.book.specs.Limits.{kindLimit};
+ghost use Rattle.book.specs.Limits.{kindLimit, rowLength};
 ghost use Rattle.book.specs.RowBytes.{rowBytes};
 ghost use Rattle.rows.specs.Meaning.{meant, narrowed};
 ghost use Rattle.rows.specs.Table.{fill};
@@ -81,8 +81,8 @@ fn parts_of(row: Row) -> Fields
 
 // The fields of row n at their places, of which the table keeps those that the kind has. Visits have one byte: their low one.
 fn put(b: &mut [u8], f: Fields, n: Lsn)
-    requires { ⌜ (f .kind ≤ kindLimit) × (length (now b) ≡ 16) ⌝ }
-    ensures { λ _. ⌜ now (b .exit) ≡ fill 16 0 (f .kind) (fieldBytes f (n .0)) (now (b .entry)) ⌝ }
+    requires { ⌜ (f .kind ≤ kindLimit) × (length (now b) ≡ rowLength) ⌝ }
+    ensures { λ _. ⌜ now (b .exit) ≡ fill rowLength 0 (f .kind) (fieldBytes f (n .0)) (now (b .entry)) ⌝ }
 {
     let a = [
         f.kind,
@@ -107,7 +107,7 @@ fn put(b: &mut [u8], f: Fields, n: Lsn)
 
 // Writes row n to b, a row's 16 bytes.
 pub fn write_row(b: &mut [u8], row: Row, n: Lsn)
-    requires { ⌜ length (now b) ≡ 16 ⌝ }
+    requires { ⌜ length (now b) ≡ rowLength ⌝ }
     ensures { λ _. ⌜ now (b .exit) ≡ rowBytes (n .0) (narrowed (meant row)) ⌝ }
 {
     put(b, parts_of(row), n);

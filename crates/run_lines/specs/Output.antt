@@ -13,10 +13,10 @@ abbrev pub outputLength : ℕ
 outputLength = 20480
 
 -- the output with this text from `at` on
-abbrev pub putAt : List ℕ → ℕ → List ℕ → List ℕ
-putAt out at text = take at out ++ text ++ drop (at + length text) out
+abbrev pub putText : List ℕ → ℕ → List ℕ → List ℕ
+putText out at text = take at out ++ text ++ drop (at + length text) out
 
 -- the text was written from `at` up to `end`, and the output is `after` then
 pub record Written (out : List ℕ) (at : ℕ) (text : List ℕ) (end : ℕ) (after : List ℕ) : Type 0 where
   pub place : end ≡ at + length text
-  pub is : after ≡ putAt out at text
+  pub is : after ≡ putText out at text

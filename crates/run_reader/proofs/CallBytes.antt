@@ -15,7 +15,7 @@ use Rattle.book.specs.Lists.{eqBytes}
 use Rattle.book.specs.Calls.{Call}
 use Rattle.book.specs.Numbers.{number, bitsOf, signed}
 use Rattle.book.proofs.Numbers.{two-bytes, two-back, two-below, bits-signed}
-use Rattle.run_reader.specs.File.{fields, callBytes, callOfCode, callAt, isCallAt}
+use Rattle.run_reader.specs.File.{callFields, callBytes, callOfCode, callAt, isCallAt}
 use Rattle.run_reader.specs.Fields.{isCall}
 
 -- ── The bytes that are to be zero ─────────────────────────────────────────────────────────────────────────────────────
@@ -98,7 +98,7 @@ no-code (suc (suc (suc (suc (suc (suc (suc (suc k)))))))) v r c a h1 h2 h3 h4 h5
 
 -- the six bytes from `at` on are the fields of what is read there
 six-bytes : (bs : List ℕ) (at : ℕ) → at + 6 ≤ length bs → ((i : ℕ) → getD bs i 0 < 256)
-    → fields (getD bs at 0) (getD bs (at + 1) 0) (getD bs (at + 2) 0) (getD bs (at + 3) 0) (signed 16 (number 2 bs (at + 4))) ≡ take 6 (drop at bs)
+    → callFields (getD bs at 0) (getD bs (at + 1) 0) (getD bs (at + 2) 0) (getD bs (at + 3) 0) (signed 16 (number 2 bs (at + 4))) ≡ take 6 (drop at bs)
 six-bytes bs at h byte =
     let i1 = suc at in
     let i2 = suc i1 in

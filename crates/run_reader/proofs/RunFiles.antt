@@ -8,7 +8,7 @@ use lib.ListN.{length, getD}
 use lib.Dec.{eqb, leb}
 use borrow.Author.Tests.{eqb-true, leb-true, le-leb}
 use Rattle.book.proofs.Lists.{and-l, and-r}
-use Rattle.run_reader.specs.File.{Asked, entryAt, startAt, callsAt, callsFrom, areCalls, bodyEnd, areBodies, isRunFile, sessionsFrom, sessionsIn}
+use Rattle.run_reader.specs.File.{Asked, sessionEntryAt, startAt, callsAt, callsFrom, areCalls, bodyEnd, areBodies, isRunFile, sessionsFrom, sessionsIn}
 
 -- ── The file ──────────────────────────────────────────────────────────────────────────────────────────────────────────
 
@@ -17,8 +17,8 @@ pub record RunFile (bs : List ℕ) : Type 0 where
   pub short : length bs ≤ 4096
   pub some : 1 ≤ getD bs 0 0
   pub few : getD bs 0 0 ≤ 32
-  pub entries : entryAt (getD bs 0 0) ≤ length bs
-  pub bodies : areBodies (getD bs 0 0) 0 (entryAt (getD bs 0 0)) bs ≡ true
+  pub entries : sessionEntryAt (getD bs 0 0) ≤ length bs
+  pub bodies : areBodies (getD bs 0 0) 0 (sessionEntryAt (getD bs 0 0)) bs ≡ true
 
 pub run-file : (bs : List ℕ) → isRunFile bs ≡ true → RunFile bs
 unfolding isRunFile
@@ -27,25 +27,25 @@ run-file bs e =
     let short : leb (length bs) 4096 ≡ true = search (and-l, and-r) in
     let some : leb 1 s ≡ true = search (and-l, and-r) in
     let few : leb s 32 ≡ true = search (and-l, and-r) in
-    let entries : leb (entryAt s) (length bs) ≡ true = search (and-l, and-r) in
+    let entries : leb (sessionEntryAt s) (length bs) ≡ true = search (and-l, and-r) in
     record {
       short = leb-true (length bs) 4096 short;
       some = leb-true 1 s some;
       few = leb-true s 32 few;
-      entries = leb-true (entryAt s) (length bs) entries;
+      entries = leb-true (sessionEntryAt s) (length bs) entries;
       bodies = search (and-l, and-r);
     }
 
 -- once the sizes are right, the bodies decide
-pub by-bodies : (bs : List ℕ) → length bs ≤ 4096 → 1 ≤ getD bs 0 0 → getD bs 0 0 ≤ 32 → entryAt (getD bs 0 0) ≤ length bs
-    → areBodies (getD bs 0 0) 0 (entryAt (getD bs 0 0)) bs ≡ isRunFile bs
+pub by-bodies : (bs : List ℕ) → length bs ≤ 4096 → 1 ≤ getD bs 0 0 → getD bs 0 0 ≤ 32 → sessionEntryAt (getD bs 0 0) ≤ length bs
+    → areBodies (getD bs 0 0) 0 (sessionEntryAt (getD bs 0 0)) bs ≡ isRunFile bs
 unfolding isRunFile
 by-bodies bs short some few entries =
     let s = getD bs 0 0 in
-    rw (le-leb (length bs) 4096 short, le-leb 1 s some, le-leb s 32 few, le-leb (entryAt s) (length bs) entries)
+    rw (le-leb (length bs) 4096 short, le-leb 1 s some, le-leb s 32 few, le-leb (sessionEntryAt s) (length bs) entries)
 
 -- so `fuse_at` and `calls_at` may read it
-pub entry-within : (bs : List ℕ) → RunFile bs → (i : ℕ) → i < getD bs 0 0 → entryAt i + 8 ≤ length bs
+pub entry-within : (bs : List ℕ) → RunFile bs → (i : ℕ) → i < getD bs 0 0 → sessionEntryAt i + 8 ≤ length bs
 entry-within bs f i h = omega arith
 
 -- ── A body ────────────────────────────────────────────────────────────────────────────────────────────────────────────
@@ -93,5 +93,5 @@ pub lines-in-all : (bs : List ℕ) → isRunFile bs ≡ true → lineCount (sess
 lines-in-all bs e =
     let f = run-file bs e in
     let s = getD bs 0 0 in
-    let l = lines-fill s 0 (entryAt s) bs (f .bodies) in
+    let l = lines-fill s 0 (sessionEntryAt s) bs (f .bodies) in
     omega arith

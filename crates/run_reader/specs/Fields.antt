@@ -3,8 +3,8 @@ use Prim.Native.Nat.{ℕ}
 use mathlib.Core.Bool.{Bool}
 use lib.IntN.{ℤ}
 use Rattle.book.specs.Lists.{eqBytes}
-use Rattle.run_reader.specs.File.{fields, callBytes, callOfCode}
+use Rattle.run_reader.specs.File.{callFields, callBytes, callOfCode}
 
 -- code, visit, receiver, cell or page, change: those of a call
 abbrev pub isCall : ℕ → ℕ → ℕ → ℕ → ℤ → Bool
-isCall k v r c a = eqBytes (callBytes (callOfCode k v r c a)) (fields k v r c a)
+isCall k v r c a = eqBytes (callBytes (callOfCode k v r c a)) (callFields k v r c a)

@@ -35,21 +35,21 @@ noFuse = 4294967295
 -- ── A call ────────────────────────────────────────────────────────────────────────────────────────────────────────────
 
 -- 01: code, visit, receiver, cell or page, change
-abbrev pub fields : ℕ → ℕ → ℕ → ℕ → ℤ → List ℕ
-fields code v r c a = code ∷ v ∷ r ∷ c ∷ le 2 (bitsOf 16 a)
+abbrev pub callFields : ℕ → ℕ → ℕ → ℕ → ℤ → List ℕ
+callFields code v r c a = code ∷ v ∷ r ∷ c ∷ le 2 (bitsOf 16 a)
 
 -- 01: the codes; unused bytes are zero
 unfoldable pub callBytes : Call → List ℕ
-callBytes Call.begin = fields 1 0 0 0 (pos 0)
-callBytes (Call.change v c a) = fields 2 v 0 c a
-callBytes (Call.handOver g r c) = fields 3 g r c (pos 0)
-callBytes (Call.commit v) = fields 4 v 0 0 (pos 0)
-callBytes (Call.abort v) = fields 5 v 0 0 (pos 0)
-callBytes (Call.flush p) = fields 6 0 0 p (pos 0)
-callBytes Call.force = fields 7 0 0 0 (pos 0)
-callBytes (Call.read c) = fields 8 0 0 c (pos 0)
+callBytes Call.begin = callFields 1 0 0 0 (pos 0)
+callBytes (Call.change v c a) = callFields 2 v 0 c a
+callBytes (Call.handOver g r c) = callFields 3 g r c (pos 0)
+callBytes (Call.commit v) = callFields 4 v 0 0 (pos 0)
+callBytes (Call.abort v) = callFields 5 v 0 0 (pos 0)
+callBytes (Call.flush p) = callFields 6 0 0 p (pos 0)
+callBytes Call.force = callFields 7 0 0 0 (pos 0)
+callBytes (Call.read c) = callFields 8 0 0 c (pos 0)
 
--- the call of a code with these fields; of no such code any call will do, since `isCallAt` compares the bytes
+-- the call of a code with these callFields; of no such code any call will do, since `isCallAt` compares the bytes
 abbrev pub callOfCode : ℕ → ℕ → ℕ → ℕ → ℤ → Call
 callOfCode zero v r c a = Call.begin
 callOfCode (suc zero) v r c a = Call.begin
@@ -81,21 +81,21 @@ areCalls (suc n) bs at = isCallAt bs at && areCalls n bs (at + callLength)
 -- ── An entry ──────────────────────────────────────────────────────────────────────────────────────────────────────────
 
 -- the place of entry i, counted from 0
-abbrev pub entryAt : ℕ → ℕ
-entryAt i = 1 + entryLength * i
+abbrev pub sessionEntryAt : ℕ → ℕ
+sessionEntryAt i = 1 + entryLength * i
 
 -- 01: fuse (4 bytes), start of body (2), calls (2)
-abbrev pub fuseOf : ℕ → Fuse
-fuseOf n = cond (eqb n noFuse) none (left n)
+abbrev pub fuseOfNumber : ℕ → Fuse
+fuseOfNumber n = cond (eqb n noFuse) none (left n)
 
 abbrev pub fuseAt : List ℕ → ℕ → Fuse
-fuseAt bs i = fuseOf (number 4 bs (entryAt i))
+fuseAt bs i = fuseOfNumber (number 4 bs (sessionEntryAt i))
 
 abbrev pub startAt : List ℕ → ℕ → ℕ
-startAt bs i = number 2 bs (entryAt i + 4)
+startAt bs i = number 2 bs (sessionEntryAt i + 4)
 
 abbrev pub callsAt : List ℕ → ℕ → ℕ
-callsAt bs i = number 2 bs (entryAt i + 6)
+callsAt bs i = number 2 bs (sessionEntryAt i + 6)
 
 -- the end of the body of entry i that starts at `at`
 abbrev pub bodyEnd : List ℕ → ℕ → ℕ → ℕ
@@ -113,7 +113,7 @@ areBodies (suc n) i at bs =
 unfoldable pub isRunFile : List ℕ → Bool
 isRunFile bs =
     let s : ℕ = getD bs 0 0 in
-    leb (length bs) fileLimit && leb 1 s && leb s sessionLimit && leb (entryAt s) (length bs) && areBodies s 0 (entryAt s) bs
+    leb (length bs) fileLimit && leb 1 s && leb s sessionLimit && leb (sessionEntryAt s) (length bs) && areBodies s 0 (sessionEntryAt s) bs
 
 -- a session that the file asks for
 pub record Asked : Type 0 where
@@ -126,4 +126,4 @@ sessionsFrom zero i at bs = []
 sessionsFrom (suc n) i at bs = record { fuse = fuseAt bs i; calls = callsFrom (callsAt bs i) bs at } ∷ sessionsFrom n (suc i) (bodyEnd bs i at) bs
 
 abbrev pub sessionsIn : List ℕ → List Asked
-sessionsIn bs = let s : ℕ = getD bs 0 0 in sessionsFrom s 0 (entryAt s) bs
+sessionsIn bs = let s : ℕ = getD bs 0 0 in sessionsFrom s 0 (sessionEntryAt s) bs

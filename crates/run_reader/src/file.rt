@@ -3,22 +3,23 @@
 ghost use mathlib.Core.Path.{_≡_};
 ghost use Prim.Native.Nat.{_+_, _*_, _≤_};
 ghost use lib.ListN.{length};
-ghost use Rattle.book.specs.Numbers.{number, signed as signedOf};
+ghost use Rattle.book.specs.Numbers.{signed as signedOf};
 ghost use Rattle.state.specs.World.{allowance};
 ghost use Rattle.state.specs.Requests.{callOf};
 ghost use Rattle.run_reader.specs.Fields.{isCall};
-ghost use Rattle.run_reader.specs.File.{entryLength, callLength, callAt, isCallAt, areCalls, entryAt, fuseAt, startAt, callsAt, areBodies, isRunFile};
+ghost use Rattle.run_reader.specs.File.{entryLength, callLength, callAt, isCallAt, areCalls, sessionEntryAt, fuseAt, startAt, callsAt, areBodies, isRunFile};
 use rows::Cell;
 use rows::Visit;
 use rows::numbers::index;
+use rows::numbers::read16;
+use rows::numbers::read32;
 use rows::numbers::signed;
 use rows::numbers::wide;
-use rows::numbers::word;
 use state::ram::Fuse;
 use state::requests::Request;
 
 // Sizes in bytes.
-const FILE_LIMIT: usize = 4096;
+pub const FILE_LIMIT: usize = 4096;
 
 pub const ENTRY_LENGTH: usize = 8;
 
@@ -28,27 +29,9 @@ const SESSION_LIMIT: usize = 32;
 
 const NO_FUSE: u32 = 4294967295;
 
-// The number in two bytes.
-fn read16(file: &[u8], at: usize) -> u16
-    requires { ⌜ at + 2 ≤ length (now file) ⌝ }
-    ensures { λ r. ⌜ r ≡ number 2 (now (file .entry)) at ⌝ }
-{
-    word(file[at], file[at + 1])
-}
-
-// The number in four bytes.
-fn read32(file: &[u8], at: usize) -> u32
-    requires { ⌜ at + 4 ≤ length (now file) ⌝ }
-    ensures { λ r. ⌜ r ≡ number 4 (now (file .entry)) at ⌝ }
-{
-    let low = read16(file, at);
-    let high = read16(file, at + 2);
-    low as u32 + 65536 * (high as u32)
-}
-
 // The fuse of entry i.
 pub fn fuse_at(file: &[u8], i: usize) -> Fuse
-    requires { ⌜ entryAt i + entryLength ≤ length (now file) ⌝ }
+    requires { ⌜ sessionEntryAt i + entryLength ≤ length (now file) ⌝ }
     ensures { λ r. ⌜ allowance r ≡ fuseAt (now (file .entry)) i ⌝ }
 {
     let writes = read32(file, 1 + ENTRY_LENGTH * i);
@@ -61,7 +44,7 @@ pub fn fuse_at(file: &[u8], i: usize) -> Fuse
 
 // Where entry i says that its body starts.
 fn start_at(file: &[u8], i: usize) -> usize
-    requires { ⌜ entryAt i + entryLength ≤ length (now file) ⌝ }
+    requires { ⌜ sessionEntryAt i + entryLength ≤ length (now file) ⌝ }
     ensures { λ r. ⌜ r ≡ startAt (now (file .entry)) i ⌝ }
 {
     read16(file, 1 + ENTRY_LENGTH * i + 4) as usize
@@ -69,7 +52,7 @@ fn start_at(file: &[u8], i: usize) -> usize
 
 // The number of calls of entry i.
 pub fn calls_at(file: &[u8], i: usize) -> usize
-    requires { ⌜ entryAt i + entryLength ≤ length (now file) ⌝ }
+    requires { ⌜ sessionEntryAt i + entryLength ≤ length (now file) ⌝ }
     ensures { λ r. ⌜ r ≡ callsAt (now (file .entry)) i ⌝ }
 {
     read16(file, 1 + ENTRY_LENGTH * i + 6) as usize
@@ -150,8 +133,8 @@ fn are_calls(file: &[u8], at: usize, n: usize) -> bool
 
 // The bodies of the entries stand from the end of the entries on, without gaps, in order, to the end of the file.
 fn are_bodies(file: &[u8], sessions: usize) -> bool
-    requires { ⌜ entryAt sessions ≤ length (now file) ⌝ }
-    ensures { λ r. ⌜ r ≡ areBodies sessions 0 (entryAt sessions) (now (file .entry)) ⌝ }
+    requires { ⌜ sessionEntryAt sessions ≤ length (now file) ⌝ }
+    ensures { λ r. ⌜ r ≡ areBodies sessions 0 (sessionEntryAt sessions) (now (file .entry)) ⌝ }
 {
     let mut at = 1 + ENTRY_LENGTH * sessions;
     let mut i: usize = 0;

@@ -10,8 +10,9 @@ use Rattle.state.specs.Contracts.{Answered}
 use Rattle.book.specs.Events.{Event, happens, answers, bookAfter}
 use Rattle.state.specs.World.{World, Represents}
 use Rattle.run_lines.specs.Lines.{line}
-use Rattle.runfile.specs.Runs.{zeros, linesFrom}
-use Rattle.run_lines.specs.Output.{putAt, lineLength, Written}
+use Rattle.runfile.specs.Runs.{linesFrom}
+use Rattle.book.specs.Cells.{zeros}
+use Rattle.run_lines.specs.Output.{putText, lineLength, Written}
 use Rattle.runfile.specs.Play.{Told, Plays}
 use Rattle.runfile.proofs.Steps.{Answers}
 use Rattle.run_lines.proofs.Writings.{written-after}
@@ -68,7 +69,7 @@ take-drop zero l = refl
 take-drop (suc n) [] = refl
 take-drop (suc n) (x ∷ l) = ap (λ (r : List ℕ). x ∷ r) (take-drop n l)
 
-put-nothing : (out : List ℕ) (at : ℕ) → putAt out at [] ≡ out
+put-nothing : (out : List ℕ) (at : ℕ) → putText out at [] ≡ out
 put-nothing out at = let e : at + 0 ≡ at = omega arith in rw (append-nil, e) (take-drop at out)
 
 pub along-none : (text : Book → List ℕ) (last : Book → Book) (b : Book) (store : World) (out : List ℕ) (at : ℕ) → Represents zeros b store

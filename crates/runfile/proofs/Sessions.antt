@@ -8,9 +8,10 @@ use lib.ListN.{length, getD}
 use Rattle.book.specs.Power.{Book}
 use Rattle.book.specs.Events.{answers, bookAfter}
 use Rattle.state.specs.World.{World, Represents}
-use Rattle.run_reader.specs.File.{Asked, entryAt, fuseAt, callsAt, callsFrom, areBodies, isRunFile, sessionsFrom, sessionsIn}
+use Rattle.run_reader.specs.File.{Asked, sessionEntryAt, fuseAt, callsAt, callsFrom, areBodies, isRunFile, sessionsFrom, sessionsIn}
 use Rattle.run_lines.specs.Output.{lineLength, Written}
-use Rattle.runfile.specs.Runs.{zeros, eventsOf, linesFrom, runLines}
+use Rattle.runfile.specs.Runs.{eventsOf, linesFrom, runLines}
+use Rattle.book.specs.Cells.{zeros}
 use Rattle.runfile.specs.Play.{Plays}
 use Rattle.run_reader.proofs.RunFiles.{run-file, next-body, lineCount, calls-long, lines-in-all}
 use Rattle.runfile.proofs.Along.{Along, along-none, along-more}
@@ -32,7 +33,7 @@ pub record InSessions (file : List ℕ) (s : ℕ) (given : World) (before : List
       → Along (λ x. runLines (i + 1) x (sessionsFrom (s - i) i place file)) (λ x. b) (runLines 1 b (sessionsIn file)) b store before at out to
 
 module _ (file : List ℕ) (is : isRunFile file ≡ true) (given : World) (before : List ℕ) (at : ℕ) where
-  pub sessions-none : InSessions file (getD file 0 0) given before at 0 (entryAt (getD file 0 0)) given before at
+  pub sessions-none : InSessions file (getD file 0 0) given before at 0 (sessionEntryAt (getD file 0 0)) given before at
   sessions-none =
       let s = getD file 0 0 in
       let all : s - 0 ≡ s = omega arith in

@@ -30,9 +30,9 @@ use Rattle.state.specs.declared.ram.State.{State}
 use Rattle.tables_model.specs.declared.Scope.{Scope}
 use Rattle.cores.specs.Lent.{blanks}
 use Rattle.sessions.proofs.Held.{represents}
-use Rattle.sessions.proofs.Demand.{held-formatted}
+use Rattle.sessions.proofs.Demand3.{held-formatted}
 use Rattle.run_reader.specs.File.{callOfCode, callAt}
-use Rattle.runfile.specs.Runs.{zeros}
+use Rattle.book.specs.Cells.{zeros}
 
 small : Bounded 1000000 zeros
 small c = omega arith

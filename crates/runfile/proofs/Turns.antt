@@ -10,7 +10,8 @@ use Rattle.book.specs.Events.{Event, calls, happens, answers, bookAfter}
 use Rattle.state.specs.World.{World, Represents}
 use Rattle.run_reader.specs.File.{callAt, callsFrom, callLength}
 use Rattle.run_lines.specs.Output.{lineLength}
-use Rattle.runfile.specs.Runs.{zeros, linesFrom}
+use Rattle.runfile.specs.Runs.{linesFrom}
+use Rattle.book.specs.Cells.{zeros}
 use Rattle.runfile.specs.Play.{Plays}
 use Rattle.run_reader.proofs.RunFiles.{calls-long}
 use Rattle.runfile.proofs.Along.{Along, along-none, along-more, along-all, lines-first}

@@ -7,7 +7,8 @@ use Rattle.book.specs.Power.{Book}
 use Rattle.book.specs.Events.{Event, answers, bookAfter}
 use Rattle.state.specs.World.{World, Represents}
 use Rattle.run_lines.specs.Output.{lineLength, outputLength, Written}
-use Rattle.runfile.specs.Runs.{zeros, linesFrom, linesOf}
+use Rattle.runfile.specs.Runs.{linesFrom, linesOf}
+use Rattle.book.specs.Cells.{zeros}
 use Rattle.runfile.specs.declared.run.Output.{Output}
 use Rattle.runfile.specs.declared.run.Output.the-variants.{Lines, OutputTooShort}
 

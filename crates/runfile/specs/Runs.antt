@@ -2,16 +2,12 @@
 use Prim.Native.Nat.{ℕ, suc}
 use mathlib.Core.Bool.{true, cond}
 use mathlib.Core.List.{List, [], _∷_, _++_, map}
-use lib.IntN.{ℤ, pos}
+use Rattle.book.specs.Cells.{zeros}
 use Rattle.book.specs.Power.{Book, formatted}
 use Rattle.book.specs.Book.{Answer}
 use Rattle.book.specs.Events.{Event, opens, calls, answers, bookAfter}
 use Rattle.run_reader.specs.File.{Asked, isRunFile, sessionsIn}
 use Rattle.run_lines.specs.Lines.{line, faultLine}
-
--- 01: relog formats zeros
-abbrev pub zeros : ℕ → ℤ
-zeros c = pos 0
 
 -- a session as the book sees it
 abbrev pub eventsOf : Asked → List Event
@@ -22,7 +18,7 @@ abbrev pub linesFrom : ℕ → ℕ → List Answer → List ℕ
 linesFrom session call [] = []
 linesFrom session call (a ∷ rest) = line session call a ++ linesFrom session (suc call) rest
 
--- the lines of sessions, the first of which has this number and starts at this book
+-- the lines of sessions, the first of which has this number and starts at this book. 01: relog formats zeros.
 abbrev pub runLines : ℕ → Book → List Asked → List ℕ
 runLines session b [] = []
 runLines session b (s ∷ ss) =

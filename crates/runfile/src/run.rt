@@ -12,16 +12,22 @@ ghost use Rattle.state.specs.World.{Represents, world, allowance};
 ghost use Rattle.run_reader.specs.File.{callLength, callAt, callsFrom, isRunFile, sessionsIn};
 ghost use Rattle.run_lines.specs.Lines.{line};
 ghost use Rattle.run_lines.specs.Output.{lineLength, outputLength, Written};
-ghost use Rattle.runfile.specs.Runs.{zeros, runLines};
+ghost use Rattle.runfile.specs.Runs.{runLines};
+ghost use Rattle.book.specs.Cells.{zeros};
 ghost use Rattle.runfile.specs.Play.{Plays, RunsTo};
 use cores::entries::blank;
 use cores::outs::Out;
 use cores::ram::closed_state;
+use rows::limits::CELL_LIMIT;
+use rows::limits::CHARTS_LENGTH;
+use rows::limits::LOG_LENGTH;
+use rows::limits::SCOPE_LIMIT;
 use rows::numbers::index;
 use run_lines::line::put_fault_line;
 use run_lines::line::put_line;
 use run_reader::file::CALL_LENGTH;
 use run_reader::file::ENTRY_LENGTH;
+use run_reader::file::FILE_LIMIT;
 use run_reader::file::call_at;
 use run_reader::file::calls_at;
 use run_reader::file::fuse_at;
@@ -35,13 +41,16 @@ use store::bridges::format_on;
 use store::bridges::open_on;
 use tables_model::Scope;
 
+// Room for one byte more than a run file can have, which is enough to refuse a longer input.
+pub const INPUT_LENGTH: usize = FILE_LIMIT + 1;
+
 // Room for the lines of any run file.
 pub const OUTPUT_LENGTH: usize = 20480;
 
 // Between two calls: what the store has in RAM, and the place of the next line.
 struct Point {
     state: State,
-    table: [Scope; 64],
+    table: [Scope; SCOPE_LIMIT],
     at: usize,
 }
 
@@ -210,7 +219,7 @@ fn formatted_at_zeros(log: &mut [u8], charts: &mut [u8], copy: &mut [u8]) -> Poi
 {
     let closed = closed_state();
     let entries = blank();
-    let cells = [0i32; 224];
+    let cells = [0i32; CELL_LIMIT];
     let o = format_on(closed, log, charts, copy, entries, &cells);
     let r = o.result;
     let state = r.state;
@@ -227,9 +236,9 @@ fn play(file: &[u8], out: &mut [u8]) -> usize
     requires { ⌜ (isRunFile (now file) ≡ true) × (outputLength ≤ length (now out)) ⌝ }
     ensures { λ r. ⌜ Written (now (out .entry)) 0 (runLines 1 formatted (sessionsIn (now (file .entry)))) r (now (out .exit)) ⌝ }
 {
-    let mut log = [0u8; 65536];
-    let mut charts = [0u8; 1024];
-    let mut copy = [0u8; 1024];
+    let mut log = [0u8; LOG_LENGTH];
+    let mut charts = [0u8; CHARTS_LENGTH];
+    let mut copy = [0u8; CHARTS_LENGTH];
     let p = formatted_at_zeros(&mut log, &mut charts, &mut copy);
     sessions(p, &mut log, &mut charts, &mut copy, file, out)
 }

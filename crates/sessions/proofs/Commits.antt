@@ -17,7 +17,7 @@ use Rattle.book.specs.Events.{Event, bookAfter}
 use Rattle.book.specs.Logs.{Sound}
 use Rattle.book.proofs.Sound.{stored-allowed, sound-call, sound-events, TypedEvents}
 use Rattle.book.proofs.Claims.{grows-events, CommitDone, commit-done, CommitLasts, commit-lasts}
-use Rattle.sessions.specs.Demand.{Lasts}
+use Rattle.sessions.specs.Demand3.{Lasts}
 
 module _ (cells : ℕ → ℤ) (b : Book) (lengths : Bool) (v : ℕ) (s : Sound b) (e : call cells b lengths (Call.commit v) .answer .number ≡ 0) where
   -- the book after it

@@ -20,7 +20,7 @@ use Rattle.state.proofs.FormattedStores.{formatted-store}
 use Rattle.state.proofs.Satisfiable.{met, met-lengths}
 use Rattle.sessions.specs.Host.{Called, Session, Step, opened, called, steps, eventOf, worldAfter, GetsStored, GetsRam, callsFollow, HostDoes, Host, Contract, Contracts}
 use Rattle.sessions.proofs.Held.{Held, represents, step}
-use Rattle.sessions.proofs.Demand.{held-formatted}
+use Rattle.sessions.proofs.Demand3.{held-formatted}
 
 -- ── One step ──────────────────────────────────────────────────────────────────────────────────────────────────────────
 

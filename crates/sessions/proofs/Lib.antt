@@ -3,8 +3,9 @@ pub mod Held
 pub mod Along
 pub mod ReadyOpenings
 pub mod Commits
-pub mod Demand
+pub mod Demand1
+pub mod Demand2
+pub mod Demand3
 pub mod EveryList
 pub mod Freedom
 pub mod Made
-pub mod OpenReads

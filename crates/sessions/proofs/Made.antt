@@ -2,9 +2,9 @@
 use mathlib.Core.List.{List, [], _∷_, _++_, map}
 use Rattle.state.specs.Contracts.{answeredBy}
 use Rattle.sessions.specs.Host.{Step, called, steps, Contracts}
-use Rattle.sessions.specs.Demand.{Demand3}
+use Rattle.sessions.specs.Demand3.{Demand3}
 use Rattle.sessions.specs.Made.{OtherCall, Made, calledBy, sessionOf, Demand3OfCalls}
-use Rattle.sessions.proofs.Demand.{demand-3}
+use Rattle.sessions.proofs.Demand3.{demand-3}
 
 and-then : (cs : List OtherCall) (ss : List Step) → Contracts ss → Contracts (map called (map calledBy cs) ++ ss)
 and-then [] ss p = p

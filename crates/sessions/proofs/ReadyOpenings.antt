@@ -12,14 +12,13 @@ use lib.IntN.{ℤ, pos}
 use borrow.Author.Tests.{lt-ltb}
 use Rattle.book.specs.Lists.{any, keep}
 use Rattle.book.specs.Limits.{cellLimit}
-use Rattle.book.specs.Rows.{Row}
+use Rattle.book.specs.Rows.{Row, isUndo}
 use Rattle.book.specs.Ledger.{Change, ledger}
 use Rattle.book.specs.Rules.{allowedLog}
 use Rattle.book.specs.Cells.{applied, isKept, keptSum}
 use Rattle.book.specs.Calls.{Call}
 use Rattle.book.specs.Power.{Book, Fuse, rowsOf}
 use Rattle.book.specs.Book.{refusal, adds, through, value, answer, accepted, call, closing, reopened, reopen, opening}
-use Rattle.book.specs.Cases.{isUndo}
 use Rattle.book.specs.Pages.{chartBytes, cellOf, pageAfter}
 use Rattle.book.specs.Logs.{Logged, undoes, Sound}
 use Rattle.book.proofs.Lists.{clash, not-is}
@@ -31,7 +30,7 @@ use Rattle.book.proofs.Sound.{stored-allowed, opening-book}
 use Rattle.book.proofs.Openings.{closing-undos, ended-open, ready}
 use Rattle.book.proofs.Pages.{Bounded, cell-read}
 use Rattle.state.specs.World.{World, copyOf, worldOf}
-use Rattle.sessions.specs.Demand.{Wrote}
+use Rattle.sessions.specs.Demand3.{Wrote}
 
 -- a read of an open book
 read-open : (cells : ℕ → ℤ) (b : Book) (c : ℕ) → b .isOpen ≡ true → c < cellLimit

@@ -34,6 +34,7 @@ pub record Session : Type 0 where
   pub opening : Opening
   pub calls : List Called
 
+-- an opening, or a call after it
 pub data Step : Type 0 where
   opened : Opening → Step
   called : Called → Step
@@ -43,6 +44,7 @@ abbrev pub steps : List Session → List Step
 steps [] = []
 steps (s ∷ ss) = opened (s .opening) ∷ map called (s .calls) ++ steps ss
 
+-- what the step was given, answered and left
 abbrev pub givenTo : Step → World
 givenTo (opened o) = o .given
 givenTo (called c) = c .given
@@ -66,6 +68,7 @@ eventOf (called c) = calls (rightLengths (c .given)) (c .call)
 abbrev pub back : {A : Type 0} → ℕ → List A → List A → List A → List A
 back n own given leaves = cond (eqb (length given) n) leaves own
 
+-- the store's own values after a step
 abbrev pub worldAfter : World → Step → World
 worldAfter own s = record {
   state = leftBy s .state;
@@ -104,6 +107,7 @@ abbrev pub callsFollow : Bool → Step → Bool
 callsFollow follow (opened o) = cond (eqb (o .result .answer .number) 1) (follow && o .asLeft) true
 callsFollow follow (called c) = follow
 
+-- what the host may hand to a step
 abbrev pub HostDoes : World → Bool → Step → Type 0
 HostDoes own follow (opened o) = GetsStored own (o .given) × (o .asLeft ≡ true → GetsRam own (o .given))
 HostDoes own follow (called c) = (follow ≡ true) × Typed (c .call) × GetsStored own (c .given) × GetsRam own (c .given)
@@ -115,10 +119,12 @@ Host own follow (s ∷ ss) = HostDoes own follow s × Host (worldAfter own s) (c
 
 -- ── What the contracts say ────────────────────────────────────────────────────────────────────────────────────────────
 
+-- the contract of the function that made the step
 abbrev pub Contract : Step → Type 0
 Contract (opened o) = OpenPost (o .fuse) (o .given) (o .result)
 Contract (called c) = CallPost (c .call) (c .given) (c .result)
 
+-- of every step
 abbrev pub Contracts : List Step → Type 0
 Contracts [] = Unit {0}
 Contracts (s ∷ ss) = Contract s × Contracts ss

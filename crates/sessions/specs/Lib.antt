@@ -1,5 +1,6 @@
 pub mod Host
 pub mod Freedom
-pub mod Demand
+pub mod Demand1
+pub mod Demand2
+pub mod Demand3
 pub mod Made
-pub mod OpenReads

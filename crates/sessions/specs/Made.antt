@@ -11,7 +11,7 @@ use Rattle.state.specs.World.{World, allowance}
 use Rattle.state.specs.Contracts.{Returned, answeredBy, cellsOf}
 use Rattle.state.specs.Functions.{Formats, Opens, Calls}
 use Rattle.sessions.specs.Host.{Called, Session, steps, Host}
-use Rattle.sessions.specs.Demand.{Holds}
+use Rattle.sessions.specs.Demand3.{Holds}
 
 -- ── The calls ─────────────────────────────────────────────────────────────────────────────────────────────────────────
 

@@ -1,1 +1,1 @@
-// Lists of sessions, demand 3 and demand 2 of an opening (document 00): this crate has definitions (`specs/`) and proofs (`proofs/`), and no code.
+// Demands 1, 2 and 3 (document 00), and the lists of sessions that demand 3 is about: this crate has definitions (`specs/`) and proofs (`proofs/`), and no code.

@@ -20,8 +20,7 @@ use Rattle.book.proofs.Sound.{stored-allowed}
 use Rattle.book.proofs.LogBytes.{log-long}
 use Rattle.book.proofs.Pages.{chart-long}
 use Rattle.tables_model.proofs.WithinLimits.{limited}
-use Rattle.tables_model.specs.Meaning.{scopeTable}
-use Rattle.tables_model.specs.Entries.{scopeOf}
+use Rattle.tables_model.specs.Meaning.{scopeTable, scopeOf}
 use Rattle.state.specs.World.{World, rightLengths, tableOf, copyOf, worldOf, Represents}
 
 pub padded-length : {A : Type 0} (n : ℕ) (d : A) (xs : List A) → length xs ≤ n → length (padTo n d xs) ≡ n

@@ -2,6 +2,7 @@ pub mod Cases
 pub mod Lengths
 pub mod StoredCharts
 pub mod FormattedStores
+pub mod FormatAndOpen
 pub mod OpenedStores
 pub mod Kept
 pub mod Ready

@@ -16,7 +16,7 @@ use Rattle.book.specs.Calls.{Call}
 use Rattle.book.specs.Power.{Book, Fuse, none, left, formatted, force, add}
 use Rattle.book.specs.Book.{takeBack, refusal, adds, through, value, accepted, call, reopened, reopen, opening}
 use Rattle.book.specs.Events.{Event, opens, calls}
-use Rattle.book.specs.Cases.{zeros}
+use Rattle.book.specs.Cells.{zeros}
 use Rattle.book.proofs.Lists.{clash, and-l, and-r}
 use Rattle.book.proofs.Sound.{TypedEvents, sound-formatted, sound-events}
 use Rattle.state.specs.Contracts.{numbers}

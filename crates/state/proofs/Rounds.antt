@@ -16,7 +16,7 @@ use Rattle.book.specs.Power.{Book, none, add}
 use Rattle.book.specs.Book.{refusal, adds, through, value, accepted, call}
 use Rattle.book.specs.Events.{calls, bookAfter}
 use Rattle.book.specs.Logs.{Sound}
-use Rattle.book.specs.Cases.{zeros}
+use Rattle.book.specs.Cells.{zeros}
 use Rattle.book.proofs.Logs.{ledger-append}
 use Rattle.book.proofs.Steps.{bookOf}
 use Rattle.book.proofs.Force.{force-lands}

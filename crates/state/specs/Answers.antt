@@ -1,19 +1,12 @@
 -- Document 01's refusal number and value for each case of an answer. Values not named are 0.
-use Prim.Native.Nat.{ℕ}
 use mathlib.Core.Path.{_≡_}
 use mathlib.Core.Logic.{_⊎_}
-use lib.IntN.{ℤ, pos}
+use lib.IntN.{pos}
 use Rattle.book.specs.Book as book
+use Rattle.book.specs.Book.{done, refusedBy}
 use Rattle.book.specs.Calls.{Return, theVisit, theRow, theCell, zeroValue}
 use Rattle.state.specs.declared.answers.Answer.{Answer}
 use Rattle.state.specs.declared.answers.Answer.the-variants.{Done, Visit, Row, Grams, Wrote, WrongLength, CellOutOfRange, BadRow, BadPage, Closed, VisitsUsedUp, TooManyActive, NoRoom, NotActive, NoSuchCell, ScopesUsedUp, SameVisit, HoldsNone, NoSuchPage}
-
--- done, with the value; refused by the number
-abbrev pub done : ℤ → book.Answer
-done v = book.answer 0 v
-
-abbrev pub refusedBy : ℕ → book.Answer
-refusedBy n = book.answer n (pos 0)
 
 abbrev pub numberAndValue : Answer → book.Answer
 numberAndValue Done = done (pos 0)

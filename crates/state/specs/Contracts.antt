@@ -34,6 +34,7 @@ pub record Returned : Type 0 where
   pub copy : List ℕ
   pub scopes : List Scope
 
+-- by its parts
 abbrev pub returned : Result → List ℕ → List ℕ → List ℕ → List Scope → Returned
 returned r log charts copy scopes = record { result = r; log = log; charts = charts; copy = copy; scopes = scopes }
 
@@ -41,6 +42,7 @@ returned r log charts copy scopes = record { result = r; log = log; charts = cha
 abbrev pub answeredBy : Returned → Answered
 answeredBy x = record { answer = numberAndValue (x .result .answer); world = world (x .result .state) (x .log) (x .charts) (x .copy) (x .scopes) }
 
+-- by number, value and world
 abbrev pub answered : ℕ → ℤ → World → Answered
 answered n v w = record { answer = answer n v; world = w }
 
@@ -73,9 +75,11 @@ openedWorld charts o = record {
 unfoldable pub opens : Fuse → World → Answered
 opens f w = cond (rightLengths w) (openedWorld (w .charts) (openBytes f (w .log) (w .charts))) (answered 1 (pos 0) w)
 
+-- what format promises
 pub record FormatPost (values : List ℤ) (given : World) (x : Answered) : Type 0 where
   pub is : x ≡ formats values given
 
+-- what open promises
 pub record OpenPost (f : Fuse) (given : World) (x : Answered) : Type 0 where
   pub is : x ≡ opens f given
 
@@ -108,7 +112,9 @@ numbers Call.force = 0 ∷ 1 ∷ 5 ∷ []
 numbers (Call.flush p) = 0 ∷ 1 ∷ 5 ∷ 14 ∷ []
 numbers (Call.read c) = 0 ∷ 1 ∷ 5 ∷ 10 ∷ []
 
+-- what each of the other calls promises
 pub record CallPost (k : Call) (given : World) (x : Answered) : Type 0 where
+  -- 01: one of the numbers of the call's row of the table
   pub table : member (x .answer .number) (numbers k) ≡ true
   -- a lent buffer has another length: refused by 1, and nothing changes
   pub lengths : rightLengths given ≡ false → x ≡ answered 1 (pos 0) given
@@ -116,7 +122,8 @@ pub record CallPost (k : Call) (given : World) (x : Answered) : Type 0 where
   pub shut : rightLengths given ≡ true → isOpenPhase (given .state .phase) ≡ false → x ≡ answered 5 (pos 0) given
   -- 00, demand 1: a refusal changes no byte, whatever the call was handed
   pub keeps : x .answer .number ≢ 0 → x .answer .number ≢ 5 → x ≡ answered (x .answer .number) (pos 0) given
-  -- 01, "Power": the store was closed and is as it was, or the power failed, which leaves the charts, and copy, tail and scopes cleared
+  -- 01, "Power": the store was closed, or its counters (of the host's making) were beyond their limits, and it is as it was; or the power failed, which
+  -- leaves the charts, and copy, tail and scopes cleared
   pub cut : x .answer .number ≡ 5 → (x ≡ answered 5 (pos 0) given) ⊎ (x ≡ answered 5 (pos 0) (cleared (x .world .log) (given .charts)))
   -- what stands for a book becomes what stands for the book after the call
   pub is : rightLengths given ≡ true → (cells : ℕ → ℤ) (b : Book) → Represents cells b given → x ≡ byBook cells b k given

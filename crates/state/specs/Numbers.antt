@@ -9,10 +9,10 @@ use Rattle.book.specs.Power.{Book, Fuse, formatted}
 use Rattle.book.specs.Book.{call}
 use Rattle.book.specs.Events.{Event, opens, bookAfter}
 use Rattle.book.specs.Logs.{Sound}
-use Rattle.book.specs.Cases.{zeros}
+use Rattle.book.specs.Cells.{zeros}
 use Rattle.state.specs.Contracts.{numbers}
 
--- 01, "The run file": the code of a call, which is its kind
+-- 01, "The run file": the code of a call
 abbrev pub codeOf : Call → ℕ
 codeOf Call.begin = 1
 codeOf (Call.change v c a) = 2

@@ -8,7 +8,7 @@ use lib.ListN.{length, take, replicate}
 use lib.IntN.{ℤ}
 use lib.Dec.{eqb}
 use Rattle.book.specs.Lists.{padTo}
-use Rattle.book.specs.Limits.{logLength, chartsLength, scopeLimit, activeLimit, cellLimit, chartBound, moveBound}
+use Rattle.book.specs.Limits.{logLength, chartsLength, scopeLimit, cellLimit, chartBound, moveBound}
 use Rattle.book.specs.Rows.{Row}
 use Rattle.book.specs.Cells.{lastOn}
 use Rattle.book.specs.Scopes.{unused}
@@ -18,11 +18,8 @@ use Rattle.book.specs.LogBytes.{rowsBytes, logBytes}
 use Rattle.book.specs.Pages.{chartBytes, pageAfter}
 use Rattle.book.specs.Opening.{noCopy}
 use Rattle.book.specs.Logs.{Sound}
-use Rattle.tables_model.specs.declared.Tables.{Tables}
 use Rattle.tables_model.specs.declared.Scope.{Scope}
-use Rattle.tables_model.specs.Entries.{scopeOf}
-use Rattle.tables_model.specs.Visits.{vacant}
-use Rattle.tables_model.specs.Meaning.{tablesOf, scopeTable}
+use Rattle.tables_model.specs.Meaning.{scopeOf, noTables, tablesOf, scopeTable}
 use Rattle.state.specs.declared.ram.Phase.{Phase}
 use Rattle.state.specs.declared.ram.Phase.the-variants.{Open, Closed}
 use Rattle.state.specs.declared.ram.Fuse.{Fuse}
@@ -37,6 +34,7 @@ pub record World : Type 0 where
   pub copy : List ℕ
   pub scopes : List Scope
 
+-- by its parts
 abbrev pub world : State → List ℕ → List ℕ → List ℕ → List Scope → World
 world state log charts copy scopes = record { state = state; log = log; charts = charts; copy = copy; scopes = scopes }
 
@@ -63,12 +61,13 @@ abbrev pub allowance : Fuse → Allowance
 allowance Unlimited = none
 allowance (Left n) = left n
 
-abbrev pub noTables : Tables
-noTables = record { begun = 0; active = replicate activeLimit vacant; count = 0; used = 0 }
+-- the length of the tail: 64 rows
+abbrev pub tailLength : ℕ
+tailLength = 1024
 
 -- the one closed state: what a new store has, and a power failure leaves
 abbrev pub closedState : State
-closedState = record { phase = Closed; fuse = Unlimited; stored = 0; waiting = 0; tables = noTables; tail = replicate 1024 0 }
+closedState = record { phase = Closed; fuse = Unlimited; stored = 0; waiting = 0; tables = noTables; tail = replicate tailLength 0 }
 
 -- the state of an open book
 abbrev pub openState : Book → State
@@ -78,9 +77,10 @@ openState b = record {
   stored = length (b .stored);
   waiting = length (b .waiting);
   tables = tablesOf (ledgerOf b);
-  tail = padTo 1024 0 (rowsBytes (suc (length (b .stored))) (b .waiting));
+  tail = padTo tailLength 0 (rowsBytes (suc (length (b .stored))) (b .waiting));
 }
 
+-- the state that a book comes to
 unfoldable pub stateOf : Book → State
 stateOf b = cond (b .isOpen) (openState b) closedState
 

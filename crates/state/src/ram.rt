@@ -1,4 +1,5 @@
 // The state of the store between calls.
+use rows::limits::TAIL_LENGTH;
 use tables_model::Tables;
 
 // Closed until it is opened, and after a power failure.
@@ -20,5 +21,5 @@ pub struct State {
     pub stored: usize,
     pub waiting: usize,
     pub tables: Tables,
-    pub tail: [u8; 1024],
+    pub tail: [u8; TAIL_LENGTH],
 }

@@ -7,6 +7,7 @@ use crate::public::format;
 use crate::public::open;
 use cores::outs::Out;
 use cores::outs::out_of;
+use rows::limits::SCOPE_LIMIT;
 use state::ram::Fuse;
 use state::ram::State;
 use state::requests::Request;
@@ -17,7 +18,7 @@ pub fn format_on(
     log: &mut [u8],
     charts: &mut [u8],
     copy: &mut [u8],
-    table: [Scope; 64],
+    table: [Scope; SCOPE_LIMIT],
     cells: &[i32],
 ) -> Out
     ensures { λ o. ⌜ Formats (now (cells .entry)) (world state (now (log .entry)) (now (charts .entry)) (now (copy .entry)) table)
@@ -33,7 +34,7 @@ pub fn open_on(
     log: &mut [u8],
     charts: &mut [u8],
     copy: &mut [u8],
-    table: [Scope; 64],
+    table: [Scope; SCOPE_LIMIT],
     fuse: Fuse,
 ) -> Out
     ensures { λ o. ⌜ Opens fuse (world state (now (log .entry)) (now (charts .entry)) (now (copy .entry)) table)
@@ -49,7 +50,7 @@ pub fn call_on(
     log: &mut [u8],
     charts: &mut [u8],
     copy: &mut [u8],
-    table: [Scope; 64],
+    table: [Scope; SCOPE_LIMIT],
     request: Request,
 ) -> Out
     ensures { λ o. ⌜ Calls request (world state (now (log .entry)) (now (charts .entry)) (now (copy .entry)) table)

@@ -2,15 +2,16 @@
 ghost use mathlib.Core.Path.{_≡_};
 ghost use Rattle.store.specs.Table.{limitOf, loaded, stored};
 use cores::entries::blank;
+use rows::limits::SCOPE_LIMIT;
 use tables_model::Scope;
 
 pub fn limit(n: usize) -> usize
     ensures { λ r. ⌜ r ≡ limitOf n ⌝ }
 {
-    if n == 64 { 64 } else { 0 }
+    if n == SCOPE_LIMIT { SCOPE_LIMIT } else { 0 }
 }
 
-pub fn load(s: &[Scope]) -> [Scope; 64]
+pub fn load(s: &[Scope]) -> [Scope; SCOPE_LIMIT]
     ensures { λ r. ⌜ r ≡ loaded (now (s .entry)) ⌝ }
 {
     let n = limit(s.len());
@@ -23,7 +24,7 @@ pub fn load(s: &[Scope]) -> [Scope; 64]
     t
 }
 
-pub fn store(s: &mut [Scope], t: [Scope; 64])
+pub fn store(s: &mut [Scope], t: [Scope; SCOPE_LIMIT])
     ensures { λ _. ⌜ now (s .exit) ≡ stored (now (s .entry)) t ⌝ }
 {
     let n = limit(s.len());

@@ -8,7 +8,8 @@ use lib.ListN.{length, getD}
 use lib.Dec.{eqb}
 use Rattle.book.specs.Scopes.{Scope, unused}
 use Rattle.tables_model.specs.declared.Active.{Active}
-use Rattle.tables_model.specs.Visits.{isOf, vacant, Places, keptAt}
+use Rattle.tables_model.specs.Visits.{isOf, Places, keptAt}
+use Rattle.tables_model.specs.Meaning.{vacant}
 use Rattle.tables_model.specs.Table.{Scopes, movedAt}
 use Rattle.tables.proofs.Loops.{ranks, ranks-kept, ranks-left}
 

@@ -12,7 +12,8 @@ use lib.Dec.{eqb, leb}
 use borrow.Author.Tests.{leb-true, leb-false}
 use Rattle.book.specs.Lists.{padTo, tabulate}
 use Rattle.book.specs.Scopes.{unused}
-use Rattle.tables_model.specs.Entries.{entryAt, entries, flag}
+use Rattle.tables_model.specs.Entries.{flag}
+use Rattle.tables_model.specs.Layout.{entryAt, entries}
 
 -- ── A list by its places ──────────────────────────────────────────────────────────────────────────────────────────────
 

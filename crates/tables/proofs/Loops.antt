@@ -40,11 +40,6 @@ module _ {A : Type 0} where
   pub mapped-next : (g : A → A) (i : ℕ) (l : List A) (d : A) → i < length l → set (mapped g i l) i (g (getD (mapped g i l) i d)) ≡ mapped g (i + 1) l
   mapped-next g i l d h = rw add-one (mapped-turn g i l d h)
 
-  pub mapped-length : (g : A → A) (i : ℕ) (l : List A) → length (mapped g i l) ≡ length l
-  mapped-length g zero l = refl
-  mapped-length g (suc i) [] = refl
-  mapped-length g (suc i) (x ∷ l) = ap suc (mapped-length g i l)
-
   -- ── Closing ranks ───────────────────────────────────────────────────────────────────────────────────────────────────
 
   -- the k places kept so far, then what is still to be kept at place i of the first n

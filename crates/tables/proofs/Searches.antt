@@ -13,7 +13,7 @@ use Rattle.book.specs.Scopes.{Scope, unused}
 use Rattle.tables_model.specs.declared.Whom.{Whom}
 use Rattle.tables_model.specs.declared.Found.{Found}
 use Rattle.tables_model.specs.declared.Found.the-variants.{At, Nothing}
-use Rattle.tables_model.specs.Entries.{entries}
+use Rattle.tables_model.specs.Layout.{entries}
 use Rattle.tables_model.specs.Table.{findFrom, find, covers, highestFrom, highest, lastBy, countAll}
 use Rattle.tables.proofs.Loops.{left, left-next}
 use Rattle.tables.proofs.Flat.{entries-length}

@@ -1,7 +1,8 @@
-// The tables of an open store, kept by functions: the active visits and the scope table in their flat forms (16 places of 2 numbers, 64 entries of 7),
-// worked on in place. Each function is proved to equal its definition in crate `tables_model`, which has what they mean: so no call and no check of a row
-// looks at the log for visits, holders, scopes or the reserve.
+// The tables of an open store, kept by functions: the active visits and the scope table in their flat forms, arrays of numbers, worked on in place. Each
+// function is proved to equal its definition in crate `tables_model`, which has what they mean: so no call and no check of a row looks at the log for
+// visits, holders, scopes or the reserve.
 pub mod entries; // the flat scope table, entry by entry
+pub mod layout; // where each number stands in the flat forms
 pub mod lookup; // what is found in the scope table
 pub mod rules; // the row rules by the tables
 pub mod scopes; // one entry: its tests, and what a row makes of it

@@ -3,16 +3,21 @@ ghost use mathlib.Core.Path.{_≡_};
 ghost use Prim.Native.Nat.{_<_};
 ghost use lib.ListN.{length, getD};
 ghost use Rattle.book.specs.Scopes.{unused};
-ghost use Rattle.tables_model.specs.Entries.{Sized, Inside, entries as entriesOf};
+ghost use Rattle.tables_model.specs.Entries.{Sized, Inside};
+ghost use Rattle.tables_model.specs.Layout.{entries as entriesOf};
 ghost use Rattle.tables_model.specs.Table.{find, grows, among, holdsCell, highest as highestIn, lastAt, openCount, lastBy, Reaches};
+use crate::entries::cell_at;
 use crate::entries::count_at;
 use crate::entries::entry_at;
+use crate::entries::handed_at;
+use crate::entries::holder_at;
+use crate::entries::last_at;
+use crate::entries::maker_at;
 use crate::scopes::covers;
 use crate::scopes::is_held;
 use rows::Cell;
 use rows::Lsn;
 use rows::Visit;
-use rows::numbers::low;
 use tables_model::CellSet;
 use tables_model::Found;
 use tables_model::Whom;
@@ -23,13 +28,15 @@ fn grows_at(t: &[u16], i: usize, v: Visit, c: Cell) -> bool
     requires { ⌜ Inside (length (now t)) i ⌝ }
     ensures { λ r. ⌜ r ≡ grows (v .0) (c .0) (getD (entriesOf (now (t .entry))) i unused) ⌝ }
 {
-    let at = 7 * i;
-    if low(t[at + 2]) == c.0 {
-        if t[at] == v.0 {
-            return t[at + 5] == 0;
-        }
+    let cell = cell_at(t, i);
+    if cell.0 != c.0 {
+        return false;
     }
-    false
+    let maker = maker_at(t, i);
+    if maker.0 != v.0 {
+        return false;
+    }
+    !handed_at(t, i)
 }
 
 // The first entry in use that a change of the cell by the visit grows.
@@ -63,14 +70,14 @@ pub fn holds_cell(t: &[u16], used: usize, v: Visit, cs: CellSet) -> bool
     false
 }
 
-// The highest open change of entry i, 0 for none and where these visits do not hold it. It reads two numbers of the entry.
+// The highest open change of entry i, 0 for none and where these visits do not hold it.
 fn last_by(t: &[u16], i: usize, w: Whom) -> u16
     requires { ⌜ Inside (length (now t)) i ⌝ }
     ensures { λ r. ⌜ r ≡ lastBy w (getD (entriesOf (now (t .entry))) i unused) ⌝ }
 {
-    let at = 7 * i;
-    if covers(w, Visit(t[at + 1])) {
-        return t[at + 4];
+    if covers(w, holder_at(t, i)) {
+        let last = last_at(t, i);
+        return last.0;
     }
     0
 }
@@ -98,16 +105,12 @@ pub fn highest(t: &[u16], used: usize, w: Whom) -> Found
 }
 
 // The highest open change of the entry found, 0 for none.
-pub fn last_at(t: &[u16], found: Found) -> Lsn
+pub fn last_found(t: &[u16], found: Found) -> Lsn
     requires { ⌜ Reaches (length (now t)) found ⌝ }
     ensures { λ r. ⌜ r .0 ≡ lastAt found (entriesOf (now (t .entry))) ⌝ }
 {
     match found {
-        Found::At(i) => {
-            let e = entry_at(t, i);
-            let last = e.last;
-            last
-        }
+        Found::At(i) => last_at(t, i),
         Found::Nothing => Lsn(0),
     }
 }
@@ -120,7 +123,7 @@ pub fn open_count(t: &[u16], used: usize) -> usize
     let mut sum: usize = 0;
     let mut i: usize = 0;
     while i < used {
-        sum += count_at(t, i);
+        sum += count_at(t, i) as usize;
         i += 1;
     }
     sum

@@ -6,15 +6,16 @@ ghost use mathlib.Core.List.{List};
 ghost use lib.ListN.{length};
 ghost use lib.Dec.{eqb};
 ghost use Rattle.book.specs.Lists.{eqZ};
+ghost use Rattle.book.specs.Limits.{rowLimit};
 ghost use Rattle.rows.specs.Meaning.{meant};
 ghost use Rattle.tables_model.specs.Visits.{tablesIn, Listed};
 ghost use Rattle.tables_model.specs.Rows.{Ready, Ranged, index, reserveBy, roomBy, highestOf, growsBy, hasEntry, isChange, mayAct};
 ghost use Rattle.tables_model.specs.Table.{among};
-ghost use Rattle.tables_model.specs.Rows.{mayHandOver, mayUndo, mayAbort, lawfulBy, roomToBegin, roomToChange, withinLimitsBy, judgeBy};
+ghost use Rattle.tables_model.specs.Rows.{mayHandOverBy, mayUndo, mayAbort, lawfulBy, roomToBegin, roomToChange, withinLimitsBy, judgeBy};
 use crate::lookup::find_growing;
 use crate::lookup::highest;
 use crate::lookup::holds_cell;
-use crate::lookup::last_at;
+use crate::lookup::last_found;
 use crate::lookup::open_count;
 use crate::visits::is_bearing;
 use crate::visits::is_listed;
@@ -22,6 +23,9 @@ use rows::Cell;
 use rows::Lsn;
 use rows::Row;
 use rows::Visit;
+use rows::limits::ACTIVE_LIMIT;
+use rows::limits::ROW_LIMIT;
+use rows::limits::SCOPE_LIMIT;
 use tables_model::CellSet;
 use tables_model::Counts;
 use tables_model::Found;
@@ -37,9 +41,13 @@ pub fn reserve(t: Counts, scopes: &[u16]) -> usize
 }
 
 fn free_rows(rows: usize) -> usize
-    ensures { λ r. ⌜ r ≡ 4096 - rows ⌝ }
+    ensures { λ r. ⌜ r ≡ rowLimit - rows ⌝ }
 {
-    if rows < 4096 { 4096 - rows } else { 0 }
+    if rows < ROW_LIMIT {
+        ROW_LIMIT - rows
+    } else {
+        0
+    }
 }
 
 // After so many rows, n more are free besides the reserve.
@@ -58,7 +66,7 @@ pub fn highest_of(t: Counts, scopes: &[u16], v: Visit) -> Lsn
     ensures { λ r. ⌜ ((vs : List ℕ) → r .0 ≡ highestOf (index t vs (now (scopes .entry))) (v .0)) ⌝ }
 {
     let found = highest(scopes, t.used, Whom::One(v));
-    last_at(scopes, found)
+    last_found(scopes, found)
 }
 
 // A change of the cell by the visit would grow a scope.
@@ -78,7 +86,7 @@ pub fn has_entry(t: Counts, scopes: &[u16], v: Visit, c: Cell) -> bool
     requires { ⌜ Ranged t (length (now scopes)) ⌝ }
     ensures { λ r. ⌜ ((vs : List ℕ) → r ≡ hasEntry (index t vs (now (scopes .entry))) (v .0) (c .0)) ⌝ }
 {
-    t.used < 64 || grows_scope(t, scopes, v, c)
+    t.used < SCOPE_LIMIT || grows_scope(t, scopes, v, c)
 }
 
 // The visit is active, and no undo row bears it.
@@ -102,7 +110,7 @@ pub fn may_hand_over(
     cs: CellSet,
 ) -> bool
     requires { ⌜ Ready t (length (now visits)) (length (now scopes)) ⌝ }
-    ensures { λ b. ⌜ b ≡ mayHandOver (index t (now (visits .entry)) (now (scopes .entry))) (g .0) (r .0) (among cs) ⌝ }
+    ensures { λ b. ⌜ b ≡ mayHandOverBy (index t (now (visits .entry)) (now (scopes .entry))) (g .0) (r .0) (among cs) ⌝ }
 {
     if g.0 == r.0 {
         return false;
@@ -196,7 +204,7 @@ fn room_to_begin(t: Counts, scopes: &[u16], rows: usize) -> bool
     requires { ⌜ Ranged t (length (now scopes)) ⌝ }
     ensures { λ r. ⌜ ((vs : List ℕ) → r ≡ roomToBegin (index t vs (now (scopes .entry))) rows) ⌝ }
 {
-    if t.count < 16 {
+    if t.count < ACTIVE_LIMIT {
         has_room(t, scopes, rows, 2)
     } else {
         false

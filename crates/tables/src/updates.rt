@@ -3,13 +3,15 @@ ghost use mathlib.Core.Path.{_≡_};
 ghost use lib.ListN.{length, getD, set, take};
 ghost use Rattle.book.specs.Lists.{padTo};
 ghost use Rattle.book.specs.Scopes.{unused as unusedScope};
+ghost use Rattle.book.specs.Limits.{scopeLimit};
 ghost use Rattle.tables_model.specs.declared.Found.the-variants.{At};
-ghost use Rattle.tables_model.specs.Entries.{Sized, Inside, entries as entriesOf};
-ghost use Rattle.tables_model.specs.Table.{scopesIn, MayNote, Moves, ClosedRanks, scopesChanged};
-ghost use Rattle.tables_model.specs.Table.{among, scopesHanded, scopesEnded, handedOn, movedAt, undoneAt};
+ghost use Rattle.tables_model.specs.Entries.{Sized, Inside};
+ghost use Rattle.tables_model.specs.Layout.{entries as entriesOf};
+ghost use Rattle.tables_model.specs.Table.{scopesIn, MayNote, Moves, ClosedRanks, scopesChanged, among, scopesHanded, scopesEnded, handedOn, movedAt, undoneAt};
 use crate::entries::clear;
 use crate::entries::entry_at;
 use crate::entries::put_entry;
+use crate::layout::ENTRY_WIDTH;
 use crate::lookup::find_growing;
 use crate::scopes::grown;
 use crate::scopes::is_held;
@@ -107,9 +109,9 @@ fn close_ranks(t: &mut [u16], used: usize, v: Visit) -> usize
 // Every entry from number k on is unused.
 fn clear_from(t: &mut [u16], k: usize)
     requires { ⌜ Sized (length (now t)) k ⌝ }
-    ensures { λ _. ⌜ entriesOf (now (t .exit)) ≡ padTo 64 unusedScope (take k (entriesOf (now (t .entry)))) ⌝ }
+    ensures { λ _. ⌜ entriesOf (now (t .exit)) ≡ padTo scopeLimit unusedScope (take k (entriesOf (now (t .entry)))) ⌝ }
 {
-    let at = 7 * k;
+    let at = ENTRY_WIDTH * k;
     clear(&mut t[at..]);
 }
 

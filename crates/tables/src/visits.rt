@@ -1,13 +1,17 @@
-// The active visits in their flat form: 16 places of two numbers, the visit and whether an undo row bears it; the first `count` are in use.
+// The active visits in their flat form, place by place: the visit and whether an undo row bears it; the first `count` are in use.
 ghost use mathlib.Core.Path.{_≡_};
-ghost use Prim.Native.Nat.{_≤_};
 ghost use lib.ListN.{length, getD, set, take};
 ghost use Rattle.book.specs.Lists.{padTo};
-ghost use Rattle.tables_model.specs.Entries.{flag};
-ghost use Rattle.tables_model.specs.Visits.{visitsLength, vacant, actives, tablesIn, placesIn, Placed, Listed, Shifts, MayBegin, Without};
-ghost use Rattle.tables_model.specs.Visits.{isOf, isBearer, marked, isListed, isBearing, withBegun, withUndo, withEnded, keptAt};
+ghost use Rattle.book.specs.Limits.{activeLimit};
+ghost use Rattle.tables_model.specs.Visits.{tablesIn, placesIn, Placed, Listed, Shifts, MayBegin, Without, isOf, isBearer, marked, isListed, isBearing, withBegun, withUndo, withEnded, keptAt};
+ghost use Rattle.tables_model.specs.Meaning.{vacant};
+ghost use Rattle.tables_model.specs.Layout.{actives};
 use crate::entries::flag_of;
+use crate::layout::BEARS;
+use crate::layout::PLACE_WIDTH;
+use crate::layout::VISIT;
 use rows::Visit;
+use rows::limits::ACTIVE_LIMIT;
 use tables_model::Active;
 use tables_model::Counts;
 
@@ -16,10 +20,10 @@ pub fn active_at(visits: &[u16], i: usize) -> Active
     requires { ⌜ Placed (length (now visits)) i ⌝ }
     ensures { λ r. ⌜ r ≡ getD (actives (now (visits .entry))) i vacant ⌝ }
 {
-    let at = 2 * i;
+    let at = PLACE_WIDTH * i;
     Active {
-        visit: Visit(visits[at]),
-        bears: visits[at + 1] != 0,
+        visit: Visit(visits[at + VISIT]),
+        bears: visits[at + BEARS] != 0,
     }
 }
 
@@ -29,9 +33,9 @@ pub fn put_active(visits: &mut [u16], i: usize, a: Active)
     ensures { λ _. ⌜ actives (now (visits .exit)) ≡ set (actives (now (visits .entry))) i a ⌝ }
 {
     let bears = flag_of(a.bears);
-    let at = 2 * i;
-    visits[at] = a.visit.0;
-    visits[at + 1] = bears;
+    let at = PLACE_WIDTH * i;
+    visits[at + VISIT] = a.visit.0;
+    visits[at + BEARS] = bears;
 }
 
 fn is_of(a: Active, v: Visit) -> bool
@@ -158,14 +162,14 @@ fn close_ranks(t: Counts, visits: &mut [u16], v: Visit) -> usize
 // Every place from number k on is vacant.
 fn vacate_from(visits: &mut [u16], k: usize)
     requires { ⌜ Listed (length (now visits)) k ⌝ }
-    ensures { λ _. ⌜ actives (now (visits .exit)) ≡ padTo 16 vacant (take k (actives (now (visits .entry)))) ⌝ }
+    ensures { λ _. ⌜ actives (now (visits .exit)) ≡ padTo activeLimit vacant (take k (actives (now (visits .entry)))) ⌝ }
 {
     let none = Active {
         visit: Visit(0),
         bears: false,
     };
     let mut i = k;
-    while i < 16 {
+    while i < ACTIVE_LIMIT {
         put_active(visits, i, none);
         i += 1;
     }

@@ -16,8 +16,8 @@ use Rattle.book.specs.Scopes.{scopesOf}
 use Rattle.book.proofs.Lists.{keep-same, keep-map, map-map, eqb-sym}
 use Rattle.tables_model.specs.declared.Active.{Active}
 use Rattle.tables_model.specs.declared.Tables.{Tables}
-use Rattle.tables_model.specs.Visits.{vacant, listed, isOf, isListed, isBearing, marked, others, withBegun, withUndo, withEnded}
-use Rattle.tables_model.specs.Meaning.{activeOf, tablesOf}
+use Rattle.tables_model.specs.Visits.{listed, isOf, isListed, isBearing, marked, others, withBegun, withUndo, withEnded}
+use Rattle.tables_model.specs.Meaning.{vacant, activeOf, tablesOf}
 use Rattle.tables_model.proofs.Reversed.{any-reverse, keep-reverse, map-reverse}
 use Rattle.tables_model.proofs.Padded.{take-pad, drop-pad, push-pad, map-pad}
 use Rattle.tables_model.proofs.Looking.{any-same, any-map}

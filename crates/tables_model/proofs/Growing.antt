@@ -22,7 +22,8 @@ use Rattle.tables_model.specs.declared.Found.{Found}
 use Rattle.tables_model.specs.declared.Found.the-variants.{At, Nothing}
 use Rattle.tables_model.specs.Table.{findFrom, find, grows, grown, started, Scopes, changedAt, scopesChanged}
 use Rattle.tables_model.specs.Rows.{isSome, growsBy}
-use Rattle.tables_model.specs.Meaning.{tablesOf, scopeTable, indexOf}
+use Rattle.tables_model.specs.Meaning.{tablesOf, scopeTable}
+use Rattle.tables_model.specs.Lookup.{indexOf}
 use Rattle.tables_model.proofs.Reversed.{any-reverse, of-reverse, map-reverse}
 use Rattle.tables_model.proofs.Padded.{take-pad, getD-pad, getD-in, push-pad, set-pad, one-reverse, replaced}
 use Rattle.tables_model.proofs.Looking.{any-map, any-in, any-some, both-ways}

@@ -28,8 +28,9 @@ use Rattle.tables_model.specs.declared.Found.{Found}
 use Rattle.tables_model.specs.declared.Verdict.the-variants.{Allowed, Unlawful, OverLimit}
 use Rattle.tables_model.specs.Visits.{isListed, isBearing}
 use Rattle.tables_model.specs.Table.{isHeld, holdsCell, lastAt}
-use Rattle.tables_model.specs.Rows.{roomBy, highestOf, growsBy, holdsBy, isChange, mayHandOver, lawfulBy, withinLimitsBy, judgeBy}
-use Rattle.tables_model.specs.Meaning.{tablesOf, scopeTable, indexOf}
+use Rattle.tables_model.specs.Rows.{roomBy, highestOf, growsBy, holdsBy, isChange, mayHandOverBy, lawfulBy, withinLimitsBy, judgeBy}
+use Rattle.tables_model.specs.Meaning.{tablesOf, scopeTable}
+use Rattle.tables_model.specs.Lookup.{indexOf}
 use Rattle.tables_model.proofs.Reversed.{any-reverse}
 use Rattle.tables_model.proofs.Padded.{take-pad}
 use Rattle.tables_model.proofs.Looking.{any-map, any-in, any-some, both-ways}
@@ -95,7 +96,7 @@ module _ (rs : List Row) (al : allowedLog rs ≡ true) where
   unfolding lawfulBy lawful
   lawful-commit named v = clean-by v
 
-  may-hand-over-by : (g r : ℕ) (cs : ℕ → Bool) → mayHandOver (indexOf (ledger rs)) g r cs ≡ book.mayHandOver (ledger rs) g r cs
+  may-hand-over-by : (g r : ℕ) (cs : ℕ → Bool) → mayHandOverBy (indexOf (ledger rs)) g r cs ≡ book.mayHandOver (ledger rs) g r cs
   may-hand-over-by g r cs =
       rw (is-listed (ledger rs) g, is-bearing (ledger rs) g, is-listed (ledger rs) r, is-bearing (ledger rs) r)
       (bools (not (eqb g r)) (isActive (ledger rs) g) (isActive (ledger rs) r) (bearsUndo (ledger rs) g) (bearsUndo (ledger rs) r)

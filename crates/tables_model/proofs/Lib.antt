@@ -1,6 +1,7 @@
 pub mod Reversed
 pub mod Padded
 pub mod Looking
+pub mod EntriesBack
 pub mod ActiveVisits
 pub mod ScopesAfter
 pub mod Highest

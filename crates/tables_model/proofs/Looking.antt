@@ -14,10 +14,6 @@ module _ {A : Type 0} where
   any-in p {x} (List·Memᴰ·head {x = y} {xs = xs} e) h = rw (← e, h)
   any-in p {x} (List·Memᴰ·tail {x = y} {xs = xs} m) h = or-r (p y) (any p xs) (any-in p m h)
 
-  pub none-any : (p : A → Bool) (xs : List A) → ((x : A) → In x xs → p x ≡ true → ⊥) → any p xs ≡ false
-  none-any p [] h = refl
-  none-any p (x ∷ xs) h = rw (is-false (p x) (h x here)) (none-any p xs (λ y m. h y (there m)))
-
   pub any-some : (p : A → Bool) (xs : List A) → any p xs ≡ true → (x : A) × In x xs × (p x ≡ true)
   any-some p [] e = clash false e refl
   any-some p (x ∷ xs) e = go (p x) refl e (any-some p xs)

@@ -16,7 +16,7 @@ use Rattle.book.specs.Pages.{rowAt}
 use Rattle.book.proofs.Lists.{clash, is-false, and-i, and-l, and-r, here, in-keep, keep-in, keep-same, keep-none}
 use Rattle.book.proofs.Invariant.{Inv, falling-keep}
 use Rattle.book.proofs.Recorded.{row-of, change-of}
-use Rattle.tables_model.specs.Meaning.{isChangeBy, previous}
+use Rattle.tables_model.specs.Lookup.{isChangeBy, previous}
 use Rattle.tables_model.proofs.Highest.{row-le}
 
 -- the row that passes the test

@@ -12,7 +12,8 @@ use Rattle.book.proofs.Scoped.{Scoped}
 use Rattle.book.proofs.Counts.{sumBy, counts-open}
 use Rattle.tables_model.specs.Table.{countAll, openCount}
 use Rattle.tables_model.specs.Rows.{reserveBy}
-use Rattle.tables_model.specs.Meaning.{tablesOf, scopeTable, indexOf}
+use Rattle.tables_model.specs.Meaning.{tablesOf, scopeTable}
+use Rattle.tables_model.specs.Lookup.{indexOf}
 use Rattle.tables_model.proofs.Reversed.{count-reverse}
 use Rattle.tables_model.proofs.Padded.{take-pad}
 

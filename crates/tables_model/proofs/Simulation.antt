@@ -12,14 +12,14 @@ use Rattle.book.specs.Scopes.{unused, scopesOf}
 use Rattle.book.specs.Pages.{rowAt}
 use Rattle.book.proofs.Lists.{and-l, and-r}
 use Rattle.book.proofs.Logs.{allowed-append, ledger-append}
-use Rattle.tables_model.specs.Visits.{noTables}
+use Rattle.tables_model.specs.Meaning.{noTables, tablesOf, scopeTable}
 use Rattle.tables_model.specs.Rows.{Index, stepBy}
-use Rattle.tables_model.specs.Meaning.{tablesOf, scopeTable, indexOf, beforeUndone}
+use Rattle.tables_model.specs.Lookup.{indexOf, beforeUndone}
 use Rattle.tables_model.proofs.Step.{step-by}
 
 -- before the first row
 pub index-empty : indexOf empty ≡ record { tables = noTables; scopes = replicate scopeLimit unused }
-unfolding tablesOf scopeTable scopesOf noTables
+unfolding tablesOf scopeTable scopesOf
 index-empty = refl
 
 -- the rows from the next one on

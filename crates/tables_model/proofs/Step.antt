@@ -23,9 +23,10 @@ use Rattle.tables_model.specs.declared.Tables.{Tables}
 use Rattle.tables_model.specs.declared.Whom.{Whom}
 use Rattle.tables_model.specs.declared.Whom.the-variants.{One}
 use Rattle.tables_model.specs.Visits.{withUndo, withEnded, withUsed}
-use Rattle.tables_model.specs.Table.{isHeld, passed, Scopes, scopesHanded, leftBy, scopesEnded}
+use Rattle.tables_model.specs.Table.{isHeld, passed, Scopes, scopesHanded, heldByOthers, scopesEnded}
 use Rattle.tables_model.specs.Rows.{Index, afterHandOver, stepBy}
-use Rattle.tables_model.specs.Meaning.{activeOf, tablesOf, scopeTable, indexOf, beforeUndone}
+use Rattle.tables_model.specs.Meaning.{activeOf, tablesOf, scopeTable}
+use Rattle.tables_model.specs.Lookup.{indexOf, beforeUndone}
 use Rattle.tables_model.proofs.Reversed.{keep-reverse, map-reverse}
 use Rattle.tables_model.proofs.Padded.{take-pad, drop-pad, map-pad, replaced}
 use Rattle.tables_model.proofs.ActiveVisits.{visitsOf, tablesWith, tables-with, begun-visits, ended-visits}
@@ -91,7 +92,7 @@ module _ (l : Ledger) (i : Inv l) (S : Scoped (l .changes)) where
       → scopesEnded (length (scopesOf l)) v (scopeTable l) ≡ record { used = length ss; entries = padTo scopeLimit unused (reverse ss) }
   unfolding scopesEnded scopeTable
   scopes-ended v ss e =
-      let left : leftBy (length (scopesOf l)) v (padTo scopeLimit unused (reverse (scopesOf l))) ≡ reverse ss =
+      let left : heldByOthers (length (scopesOf l)) v (padTo scopeLimit unused (reverse (scopesOf l))) ≡ reverse ss =
       ap (keep (λ s. not (eqb (s .holder) v))) (take-pad scopeLimit unused (scopesOf l)) ∙ keep-reverse _ (scopesOf l) ∙ ap reverse (sym e) in
       ap (λ (ts : List Scope). record { used = length ts; entries = padTo scopeLimit unused ts }) left ∙
       ap (λ (n : ℕ). record { used = n; entries = padTo scopeLimit unused (reverse ss) }) (length-reverse ss)

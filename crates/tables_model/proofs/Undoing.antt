@@ -26,7 +26,8 @@ use Rattle.tables_model.specs.declared.Found.{Found}
 use Rattle.tables_model.specs.declared.Found.the-variants.{At, Nothing}
 use Rattle.tables_model.specs.Visits.{withUndo}
 use Rattle.tables_model.specs.Table.{covers, highest, lowered, undoneAt, scopesUndone}
-use Rattle.tables_model.specs.Meaning.{tablesOf, scopeTable, indexOf, previous, beforeLast, beforeFound, beforeHighest}
+use Rattle.tables_model.specs.Meaning.{tablesOf, scopeTable}
+use Rattle.tables_model.specs.Lookup.{indexOf, previous, beforeLast, beforeFound, beforeHighest}
 use Rattle.tables_model.proofs.Reversed.{map-reverse}
 use Rattle.tables_model.proofs.Padded.{getD-pad, set-pad, one-reverse, replaced}
 use Rattle.tables_model.proofs.ActiveVisits.{visitsOf, tablesWith, tables-with, undone-visits}

@@ -1,41 +1,11 @@
--- The flat scope table read as entries: 64 entries of 7 numbers each, in the order of 01's fields, then `handed` and `count`.
-use Prim.Native.Nat.{ℕ, _+_, _*_, _%_, _≤_, _<_}
+-- What the functions over single entries of the flat scope table (specs/Layout) ask and give.
+use Prim.Native.Nat.{ℕ, _≤_, _<_}
 use mathlib.Core.Path.{_≡_}
-use mathlib.Core.Bool.{Bool, true, false, not}
-use mathlib.Core.List.{List}
-use lib.ListN.{getD}
-use lib.Dec.{eqb}
-use Rattle.book.specs.Lists.{tabulate}
+use mathlib.Core.Bool.{Bool, true, false}
 use Rattle.book.specs.Limits.{scopeLimit}
-use Rattle.book.specs.Scopes.{Scope, unused}
+use Rattle.book.specs.Scopes.{Scope}
 use Rattle.tables_model.specs.declared.Scope.{Scope as Entry}
-
-abbrev pub entryWidth : ℕ
-entryWidth = 7
-
--- the length of the flat table
-abbrev pub flatLength : ℕ
-flatLength = 448
-
--- number k of entry i
-abbrev pub fieldAt : List ℕ → ℕ → ℕ → ℕ
-fieldAt t i k = getD t (entryWidth * i + k) 0
-
--- entry i; a cell has one byte, and whatever is not 0 counts as handed
-abbrev pub entryAt : List ℕ → ℕ → Scope
-entryAt t i = record {
-  maker = fieldAt t i 0;
-  holder = fieldAt t i 1;
-  cell = fieldAt t i 2 % 256;
-  first = fieldAt t i 3;
-  last = fieldAt t i 4;
-  handed = not (eqb (fieldAt t i 5) 0);
-  count = fieldAt t i 6;
-}
-
--- all 64
-unfoldable pub entries : List ℕ → List Scope
-entries t = tabulate scopeLimit 0 (entryAt t)
+use Rattle.tables_model.specs.Layout.{flatLength}
 
 -- what the code's struct says
 abbrev pub scopeIn : Entry → Scope
@@ -47,18 +17,6 @@ scopeIn e = record {
   last = e .last .0;
   handed = e .handed;
   count = e .count;
-}
-
--- the code's struct that says it
-abbrev pub scopeOf : Scope → Entry
-scopeOf s = record {
-  maker = record { 0 = s .maker };
-  holder = record { 0 = s .holder };
-  cell = record { 0 = s .cell };
-  first = record { 0 = s .first };
-  last = record { 0 = s .last };
-  handed = s .handed;
-  count = s .count;
 }
 
 -- the number that `handed` is written as
@@ -75,8 +33,3 @@ pub record Sized (size used : ℕ) : Type 0 where
 pub record Inside (size i : ℕ) : Type 0 where
   pub long : size ≡ flatLength
   pub below : i < scopeLimit
-
--- the count of entry i, and that it is a number of 16 bits
-pub record Counted (ss : List Scope) (i n : ℕ) : Type 0 where
-  pub count : n ≡ getD ss i unused .count
-  pub small : n ≤ 65535

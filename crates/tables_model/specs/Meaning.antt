@@ -1,28 +1,30 @@
 -- What the tables are for a list of rows: the ledger's active visits and scopes in use, in ascending order.
-use Prim.Native.Nat.{ℕ, zero, suc}
-use mathlib.Core.Bool.{Bool, false, cond, _&&_}
+use Prim.Native.Nat.{ℕ}
+use mathlib.Core.Bool.{false}
 use mathlib.Core.List.{List, map, reverse}
-use lib.ListN.{length, getD}
-use lib.Dec.{eqb, leb}
+use lib.ListN.{length, replicate}
 use Rattle.book.specs.Lists.{padTo}
 use Rattle.book.specs.Limits.{activeLimit, scopeLimit}
-use Rattle.book.specs.Rows.{Row, begin, change, handOver, undo, commit, abort}
 use Rattle.book.specs.Ledger.{Ledger}
 use Rattle.book.specs.Rules.{bearsUndo}
 use Rattle.book.specs.Scopes.{Scope, unused, scopesOf}
 use Rattle.tables_model.specs.declared.Active.{Active}
+use Rattle.tables_model.specs.declared.Scope.{Scope as Entry}
 use Rattle.tables_model.specs.declared.Tables.{Tables}
-use Rattle.tables_model.specs.declared.Whom.{Whom}
-use Rattle.tables_model.specs.declared.Whom.the-variants.{One}
-use Rattle.tables_model.specs.declared.Found.{Found}
-use Rattle.tables_model.specs.declared.Found.the-variants.{At, Nothing}
-use Rattle.tables_model.specs.Visits.{vacant}
-use Rattle.tables_model.specs.Table.{highest}
-use Rattle.tables_model.specs.Rows.{Index}
 
+-- a vacant place
+abbrev pub vacant : Active
+vacant = record { visit = record { 0 = 0 }; bears = false }
+
+-- before the first row
+abbrev pub noTables : Tables
+noTables = record { begun = 0; active = replicate activeLimit vacant; count = 0; used = 0 }
+
+-- 01: an active visit, and whether an undo row bears it
 abbrev pub activeOf : Ledger → ℕ → Active
 activeOf l v = record { visit = record { 0 = v }; bears = bearsUndo l v }
 
+-- the visits, and how many scopes are in use
 unfoldable pub tablesOf : Ledger → Tables
 tablesOf l = record {
   begun = l .begun;
@@ -35,45 +37,14 @@ tablesOf l = record {
 unfoldable pub scopeTable : Ledger → List Scope
 scopeTable l = padTo scopeLimit unused (reverse (scopesOf l))
 
-abbrev pub indexOf : Ledger → Index
-indexOf l = record { tables = tablesOf l; scopes = scopeTable l }
-
--- ── What is looked up in the rows ─────────────────────────────────────────────────────────────────────────────────────
-
--- the row is a change of the cell by the maker
-abbrev pub isChangeBy : ℕ → ℕ → Row → Bool
-isChangeBy maker cell (begin v) = false
-isChangeBy maker cell (change v c a) = eqb v maker && eqb c cell
-isChangeBy maker cell (handOver g r c) = false
-isChangeBy maker cell (undo h c n a) = false
-isChangeBy maker cell (commit v) = false
-isChangeBy maker cell (abort v) = false
-
--- the highest row below n and not below `first` that is a change of the cell by the maker, 0 for none: a search downwards, by the rows alone
-abbrev pub previous : (ℕ → Row) → ℕ → ℕ → ℕ → ℕ → ℕ
-previous look maker cell first zero = 0
-previous look maker cell first (suc n) =
-    let below = previous look maker cell first n in
-    cond (leb first n && leb 1 n) (cond (isChangeBy maker cell (look n)) n below) 0
-
--- the change before the scope's last one
-abbrev pub beforeLast : (ℕ → Row) → Scope → ℕ
-beforeLast look s = previous look (s .maker) (s .cell) (s .first) (s .last)
-
--- that of the entry found, 0 for none
-abbrev pub beforeFound : (ℕ → Row) → Found → List Scope → ℕ
-beforeFound look (At i) ss = beforeLast look (getD ss i unused)
-beforeFound look Nothing ss = 0
-
--- that of the highest open change of these visits
-abbrev pub beforeHighest : (ℕ → Row) → Whom → Index → ℕ
-beforeHighest look w x = beforeFound look (highest w (x .tables .used) (x .scopes)) (x .scopes)
-
--- what a row needs: that of its holder's highest open change for an undo row, 0 for every other row
-abbrev pub beforeUndone : (ℕ → Row) → Index → Row → ℕ
-beforeUndone look x (begin v) = 0
-beforeUndone look x (change v c a) = 0
-beforeUndone look x (handOver g r c) = 0
-beforeUndone look x (undo h c n a) = beforeHighest look (One (record { 0 = h })) x
-beforeUndone look x (commit v) = 0
-beforeUndone look x (abort v) = 0
+-- the entry as the struct that the lent table has
+abbrev pub scopeOf : Scope → Entry
+scopeOf s = record {
+  maker = record { 0 = s .maker };
+  holder = record { 0 = s .holder };
+  cell = record { 0 = s .cell };
+  first = record { 0 = s .first };
+  last = record { 0 = s .last };
+  handed = s .handed;
+  count = s .count;
+}

@@ -19,8 +19,8 @@ use Rattle.tables_model.specs.declared.Found.{Found}
 use Rattle.tables_model.specs.declared.Found.the-variants.{At, Nothing}
 use Rattle.tables_model.specs.declared.Verdict.{Verdict}
 use Rattle.tables_model.specs.declared.Verdict.the-variants.{Allowed, Unlawful, OverLimit}
-use Rattle.tables_model.specs.Entries.{flatLength, entries}
-use Rattle.tables_model.specs.Visits.{visitsLength, tablesIn, InRange, Begins, isListed, isBearing, withBegun, withUndo, withEnded, withUsed}
+use Rattle.tables_model.specs.Layout.{flatLength, entries, visitsLength}
+use Rattle.tables_model.specs.Visits.{tablesIn, InRange, Begins, isListed, isBearing, withBegun, withUndo, withEnded, withUsed}
 use Rattle.tables_model.specs.Table.{find, grows, holdsCell, highest, lastAt, openCount, Scopes, scopesChanged, scopesHanded, scopesEnded, scopesUndone}
 
 -- both tables
@@ -66,8 +66,8 @@ abbrev pub mayAct : Tables → ℕ → Bool
 mayAct t v = isListed t v && not (isBearing t v)
 
 -- giver and receiver are two active visits that no undo row bears, and the giver holds changes of these cells
-abbrev pub mayHandOver : Index → ℕ → ℕ → (ℕ → Bool) → Bool
-mayHandOver x g r cs =
+abbrev pub mayHandOverBy : Index → ℕ → ℕ → (ℕ → Bool) → Bool
+mayHandOverBy x g r cs =
     not (eqb g r) && isListed (x .tables) g && isListed (x .tables) r && not (isBearing (x .tables) g) && not (isBearing (x .tables) r) && holdsBy x g cs
 
 abbrev pub mayUndo : Index → Row → ℕ → ℕ → ℕ → ℤ → Bool
@@ -80,7 +80,7 @@ mayAbort x v = isListed (x .tables) v && eqb (highestOf x v) 0
 unfoldable pub lawfulBy : Index → Row → Row → Bool
 lawfulBy x named (begin v) = eqb v (suc (x .tables .begun))
 lawfulBy x named (change v c a) = mayAct (x .tables) v
-lawfulBy x named (handOver g r c) = mayHandOver x g r (only c)
+lawfulBy x named (handOver g r c) = mayHandOverBy x g r (only c)
 lawfulBy x named (undo h c n a) = mayUndo x named h c n a
 lawfulBy x named (commit v) = mayAct (x .tables) v
 lawfulBy x named (abort v) = mayAbort x v

@@ -15,7 +15,7 @@ use Rattle.tables_model.specs.declared.CellSet.{CellSet}
 use Rattle.tables_model.specs.declared.CellSet.the-variants.{Only, Every}
 use Rattle.tables_model.specs.declared.Found.{Found}
 use Rattle.tables_model.specs.declared.Found.the-variants.{At, Nothing}
-use Rattle.tables_model.specs.Entries.{entries as entriesOf, flatLength}
+use Rattle.tables_model.specs.Layout.{entries as entriesOf, flatLength}
 
 -- ── Looking ───────────────────────────────────────────────────────────────────────────────────────────────────────────
 
@@ -113,12 +113,12 @@ unfoldable pub scopesHanded : ℕ → ℕ → ℕ → (ℕ → Bool) → List Sc
 scopesHanded used g r cs ss = map (handedOn g r cs) (take used ss) ++ drop used ss
 
 -- the entries that another visit holds
-abbrev pub leftBy : ℕ → ℕ → List Scope → List Scope
-leftBy used v ss = keep (λ s. not (eqb (s .holder) v)) (take used ss)
+abbrev pub heldByOthers : ℕ → ℕ → List Scope → List Scope
+heldByOthers used v ss = keep (λ s. not (eqb (s .holder) v)) (take used ss)
 
 -- a commit or an abort: the others close ranks
 unfoldable pub scopesEnded : ℕ → ℕ → List Scope → Scopes
-scopesEnded used v ss = record { used = length (leftBy used v ss); entries = padTo scopeLimit unused (leftBy used v ss) }
+scopesEnded used v ss = record { used = length (heldByOthers used v ss); entries = padTo scopeLimit unused (heldByOthers used v ss) }
 
 abbrev pub lowered : ℕ → Scope → Scope
 lowered before s = record {
@@ -175,6 +175,6 @@ movedAt v i x =
 
 -- the entries that another visit holds stand first
 pub record ClosedRanks (used v : ℕ) (ss : List Scope) (x : Scopes) : Type 0 where
-  pub kept : take (x .used) (x .entries) ≡ leftBy used v ss
-  pub count : x .used ≡ length (leftBy used v ss)
+  pub kept : take (x .used) (x .entries) ≡ heldByOthers used v ss
+  pub count : x .used ≡ length (heldByOthers used v ss)
   pub within : x .used ≤ scopeLimit

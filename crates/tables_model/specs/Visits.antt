@@ -1,19 +1,17 @@
 -- What the functions over the active visits compute, as equations on the struct `Tables`.
-use Prim.Native.Nat.{ℕ, suc, _+_, _*_, _≤_, _<_}
+use Prim.Native.Nat.{ℕ, suc, _≤_, _<_}
 use mathlib.Core.Path.{_≡_}
 use mathlib.Core.Bool.{Bool, false, cond, not, _&&_, _||_}
 use mathlib.Core.List.{List, _++_, map}
-use lib.ListN.{length, take, drop, set, getD, replicate}
+use lib.ListN.{length, take, drop, set, getD}
 use lib.Dec.{eqb}
-use Rattle.book.specs.Lists.{keep, any, padTo, tabulate}
+use Rattle.book.specs.Lists.{keep, any, padTo}
 use Rattle.book.specs.Limits.{activeLimit, scopeLimit}
 use Rattle.tables_model.specs.declared.Active.{Active}
 use Rattle.tables_model.specs.declared.Tables.{Tables}
 use Rattle.tables_model.specs.declared.Counts.{Counts}
-
--- a vacant place
-abbrev pub vacant : Active
-vacant = record { visit = record { 0 = 0 }; bears = false }
+use Rattle.tables_model.specs.Layout.{visitsLength, actives}
+use Rattle.tables_model.specs.Meaning.{vacant}
 
 -- so many visits and so many scopes are within the arrays: all that the functions ask of counters of any origin
 pub record InRange (m n : ℕ) : Type 0 where
@@ -70,23 +68,7 @@ withEnded t v used = record { begun = t .begun; active = padTo activeLimit vacan
 abbrev pub withUsed : Tables → ℕ → Tables
 withUsed t used = record { begun = t .begun; active = t .active; count = t .count; used = used }
 
--- before the first row
-unfoldable pub noTables : Tables
-noTables = record { begun = 0; active = replicate activeLimit vacant; count = 0; used = 0 }
-
 -- ── The visits in their flat form, and the steps of `withEnded` ───────────────────────────────────────────────────────
-
--- the length of the flat visits: 16 places of 2 numbers each
-abbrev pub visitsLength : ℕ
-visitsLength = 32
-
--- place i: the visit, and whether an undo row bears it; whatever is not 0 counts as bearing
-abbrev pub activeAt : List ℕ → ℕ → Active
-activeAt vs i = record { visit = record { 0 = getD vs (2 * i) 0 }; bears = not (eqb (getD vs (2 * i + 1) 0) 0) }
-
--- all 16
-unfoldable pub actives : List ℕ → List Active
-actives vs = tabulate activeLimit 0 (activeAt vs)
 
 -- the counters, and the flat visits beside them
 abbrev pub tablesIn : Counts → List ℕ → Tables

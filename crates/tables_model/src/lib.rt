@@ -4,6 +4,7 @@
 use rows::Cell;
 use rows::Lsn;
 use rows::Visit;
+use rows::limits::ACTIVE_LIMIT;
 
 // An active visit. Later fields move with it: the array is compacted entry by entry.
 pub struct Active {
@@ -14,7 +15,7 @@ pub struct Active {
 // The active visits stand in ascending order in the first `count` places, vacant ones after them; the first `used` scope entries are in use.
 pub struct Tables {
     pub begun: u16, // begin rows so far
-    pub active: [Active; 16],
+    pub active: [Active; ACTIVE_LIMIT],
     pub count: usize,
     pub used: usize,
 }

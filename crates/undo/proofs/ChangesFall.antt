@@ -22,7 +22,8 @@ use Rattle.tables_model.specs.declared.Found.{Found}
 use Rattle.tables_model.specs.declared.Found.the-variants.{At, Nothing}
 use Rattle.tables_model.specs.Visits.{withUndo}
 use Rattle.tables_model.specs.Table.{covers, highest, lowered}
-use Rattle.tables_model.specs.Meaning.{tablesOf, scopeTable, beforeLast}
+use Rattle.tables_model.specs.Meaning.{tablesOf, scopeTable}
+use Rattle.tables_model.specs.Lookup.{beforeLast}
 use Rattle.tables_model.proofs.Previous.{Looks}
 use Rattle.tables_model.proofs.Undoing.{HighestOpen, nothing-open, highest-open, undo-tables}
 use Rattle.journal.specs.Journal.{Journal}

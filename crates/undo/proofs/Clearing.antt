@@ -4,7 +4,6 @@ use mathlib.Core.Path.{_≡_}
 use mathlib.Core.List.{List}
 use Rattle.state.specs.Answers.{numberAndValue}
 use Rattle.state.specs.World.{cleared}
-use Rattle.state.specs.Contracts.{Answered}
 use Rattle.journal.specs.declared.Outcome.{Outcome}
 use Rattle.journal.specs.Outcomes.{outcome, Zeroed}
 use Rattle.tables.proofs.Flat.{entries-zero}

@@ -12,8 +12,7 @@ use borrow.Author.Tests.{le-leb, lt-leb, ne-eqb, leb-true, leb-false}
 use Rattle.book.specs.Numbers.{number}
 use Rattle.book.specs.Rows.{Row, begin}
 use Rattle.book.specs.RowBytes.{rowOf, rowOfKind}
-use Rattle.book.proofs.Lists.{clash}
-use Rattle.tables_model.specs.Meaning.{isChangeBy, previous}
+use Rattle.tables_model.specs.Lookup.{isChangeBy, previous}
 use Rattle.journal.specs.Journal.{Journal}
 use Rattle.undo.specs.Looking.{rowBytesAt, rowOfPart, lookUp}
 use Rattle.undo.specs.Writing.{rowCount}
@@ -21,21 +20,21 @@ use Rattle.undo.specs.Writing.{rowCount}
 -- ── A row ─────────────────────────────────────────────────────────────────────────────────────────────────────────────
 
 -- it stands in the log
-pub in-log : (j : Journal) (n : ℕ) → (n ≡ 0 → ⊥) → n ≤ j .control .stored → lookUp j n ≡ rowOf (rowBytesAt (j .log) (n - 1))
+in-log : (j : Journal) (n : ℕ) → (n ≡ 0 → ⊥) → n ≤ j .control .stored → lookUp j n ≡ rowOf (rowBytesAt (j .log) (n - 1))
 unfolding lookUp
 in-log j n h k = rw (le-leb 1 n (omega arith), le-leb n (rowCount j) (omega arith), le-leb n (j .control .stored) k)
 
 -- it waits in the tail
-pub in-tail : (j : Journal) (n : ℕ) → j .control .stored < n → n ≤ rowCount j → lookUp j n ≡ rowOf (rowBytesAt (j .tail) (n - 1 - j .control .stored))
+in-tail : (j : Journal) (n : ℕ) → j .control .stored < n → n ≤ rowCount j → lookUp j n ≡ rowOf (rowBytesAt (j .tail) (n - 1 - j .control .stored))
 unfolding lookUp
 in-tail j n h k = rw (le-leb 1 n (omega arith), le-leb n (rowCount j) k, lt-leb n (j .control .stored) h)
 
 -- there is none
-pub no-row-zero : (j : Journal) (n : ℕ) → n ≡ 0 → lookUp j n ≡ begin 0
+no-row-zero : (j : Journal) (n : ℕ) → n ≡ 0 → lookUp j n ≡ begin 0
 unfolding lookUp
 no-row-zero j n h = rw (lt-leb 1 n (omega arith))
 
-pub no-row : (j : Journal) (n : ℕ) → rowCount j < n → lookUp j n ≡ begin 0
+no-row : (j : Journal) (n : ℕ) → rowCount j < n → lookUp j n ≡ begin 0
 unfolding lookUp
 no-row j n h = rw (le-leb 1 n (omega arith), lt-leb n (rowCount j) h)
 
@@ -126,11 +125,11 @@ module _ (j : Journal) where
   abbrev tailRow : ℕ → Row
   tailRow = rowOfPart (j .tail) (j .control .stored) (j .control .waiting)
 
-  log-here : (n : ℕ) → n ≤ j .control .stored → lookUp j n ≡ logRow n
+  pub log-here : (n : ℕ) → n ≤ j .control .stored → lookUp j n ≡ logRow n
   log-here zero h = no-row-zero j zero refl
   log-here (suc n) h = rw (in-log j (suc n) (λ e. omega arith) h, part-row (j .log) 0 (j .control .stored) (suc n) (omega arith) (omega arith), sub-zero (suc n))
 
-  tail-here : (n : ℕ) → j .control .stored < n → lookUp j n ≡ tailRow n
+  pub tail-here : (n : ℕ) → j .control .stored < n → lookUp j n ≡ tailRow n
   tail-here n h = go (leb n (rowCount j)) refl
     where
       go : (t : Bool) → leb n (rowCount j) ≡ t → lookUp j n ≡ tailRow n

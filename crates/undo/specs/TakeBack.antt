@@ -9,9 +9,9 @@ use Rattle.book.specs.Scopes.{Scope, unused}
 use Rattle.tables_model.specs.declared.Whom.{Whom}
 use Rattle.tables_model.specs.declared.Found.{Found}
 use Rattle.tables_model.specs.declared.Found.the-variants.{At, Nothing}
-use Rattle.tables_model.specs.Entries.{entries}
+use Rattle.tables_model.specs.Layout.{entries}
 use Rattle.tables_model.specs.Table.{highest, lowered}
-use Rattle.tables_model.specs.Meaning.{beforeLast}
+use Rattle.tables_model.specs.Lookup.{beforeLast}
 use Rattle.journal.specs.declared.Control.{Control}
 use Rattle.undo.specs.Writing.{Ram, ram, isRunning, written}
 use Rattle.undo.specs.Looking.{lookUp}

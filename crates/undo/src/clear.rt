@@ -2,9 +2,9 @@
 ghost use mathlib.Core.Path.{_≡_};
 ghost use lib.ListN.{length};
 ghost use Rattle.book.specs.Limits.{chartsLength};
-ghost use Rattle.tables_model.specs.Entries.{flatLength};
-ghost use Rattle.tables_model.specs.Visits.{visitsLength};
-ghost use Rattle.journal.specs.Outcomes.{tailLength, Zeroed};
+ghost use Rattle.tables_model.specs.Layout.{flatLength, visitsLength};
+ghost use Rattle.journal.specs.Outcomes.{Zeroed};
+ghost use Rattle.state.specs.World.{tailLength};
 use journal::Control;
 use journal::Outcome;
 use journal::writes::clear;

@@ -1,49 +1,57 @@
-// A row is looked up where it stands, in the log or in the tail.
+// A row, and the change before another in its scope, looked up where they stand: in the log or in the tail, each a part of the journal.
 ghost use mathlib.Core.Path.{_≡_};
 ghost use Prim.Native.Nat.{_≤_};
 ghost use lib.Dec.{eqb};
 ghost use lib.ListN.{length};
 ghost use Rattle.book.specs.Numbers.{number};
 ghost use Rattle.book.specs.RowBytes.{rowOf};
+ghost use Rattle.book.specs.Limits.{rowLength};
 ghost use Rattle.journal.specs.Force.{Sizes};
 ghost use Rattle.journal.specs.Journal.{journal};
 ghost use Rattle.rows.specs.Meaning.{coded};
 ghost use Rattle.tables_model.specs.Entries.{scopeIn};
-ghost use Rattle.tables_model.specs.Meaning.{isChangeBy, previous, beforeLast};
+ghost use Rattle.tables_model.specs.Lookup.{isChangeBy, previous, beforeLast};
 ghost use Rattle.undo.specs.Looking.{rowOfPart, lookUp, Part};
 use journal::Control;
 use rows::Cell;
 use rows::Row;
 use rows::Visit;
+use rows::limits::ROW_LENGTH;
 use rows::numbers::wide;
 use rows::reader::row_in;
 use tables_model::Scope;
 
-// Row n, counted from 1. Of no such row any will do.
+// Row n of a part of the journal: bytes that hold `rows` rows, the first of them row `base` + 1. Of no such row any will do.
+pub fn row_of_part(b: &[u8], base: usize, rows: usize, n: usize) -> Row
+    requires { ⌜ Part (length (now b)) base rows ⌝ }
+    ensures { λ r. ⌜ r ≡ coded (rowOfPart (now (b .entry)) base rows n) ⌝ }
+{
+    if n <= base {
+        return Row::Begin(Visit(0));
+    }
+    if base + rows < n {
+        return Row::Begin(Visit(0));
+    }
+    let a = ROW_LENGTH * (n - base - 1);
+    let e = a + ROW_LENGTH;
+    row_in(&b[a..e])
+}
+
+// Row n, counted from 1.
 pub fn row_at(c: Control, log: &[u8], tail: &[u8], n: usize) -> Row
     requires { ⌜ Sizes c (length (now log)) (length (now tail)) ⌝ }
     ensures { λ r. ⌜ r ≡ coded (lookUp (journal c (now (log .entry)) (now (tail .entry))) n) ⌝ }
 {
-    if n == 0 {
-        return Row::Begin(Visit(0));
-    }
     let stored = c.stored;
     if n <= stored {
-        let a = 16 * (n - 1);
-        let e = a + 16;
-        return row_in(&log[a..e]);
+        return row_of_part(log, 0, stored, n);
     }
-    if n <= stored + c.waiting {
-        let a = 16 * (n - 1 - stored);
-        let e = a + 16;
-        return row_in(&tail[a..e]);
-    }
-    Row::Begin(Visit(0))
+    row_of_part(tail, stored, c.waiting, n)
 }
 
 // The visit of the row in these 16 bytes is the maker.
 fn is_made_by(b: &[u8], maker: Visit) -> bool
-    requires { ⌜ length (now b) ≡ 16 ⌝ }
+    requires { ⌜ length (now b) ≡ rowLength ⌝ }
     ensures { λ r. ⌜ r ≡ eqb (number 1 (now (b .entry)) 1) (maker .0) ⌝ }
 {
     wide(b[1]) == maker.0
@@ -51,15 +59,15 @@ fn is_made_by(b: &[u8], maker: Visit) -> bool
 
 // The 16 bytes are a change of the cell by the maker: cell, visit and kind alone are looked at, the cell first, since it rules most rows out.
 fn is_change_by(b: &[u8], maker: Visit, cell: Cell) -> bool
-    requires { ⌜ length (now b) ≡ 16 ⌝ }
+    requires { ⌜ length (now b) ≡ rowLength ⌝ }
     ensures { λ r. ⌜ r ≡ isChangeBy (maker .0) (cell .0) (rowOf (now (b .entry))) ⌝ }
 {
     b[3] == cell.0 && (is_made_by(b, maker) && b[0] == 2)
 }
 
-// The highest row below `last` and not below `first` that is a change of the cell by the maker, 0 for none, in a part of the journal: bytes that hold `rows`
-// rows, the first of them row `base` + 1. No other row is looked at: the search, downwards, begins and stops within the part.
-pub fn change_before(
+// The highest row of a part below `last` and not below `first` that is a change of the cell by the maker, 0 for none. No other row is looked at: the search,
+// downwards, begins and stops within the part.
+fn change_before(
     b: &[u8],
     base: usize,
     rows: usize,
@@ -79,8 +87,8 @@ pub fn change_before(
     };
     while lowest < n {
         n -= 1;
-        let a = 16 * (n - base - 1);
-        let e = a + 16;
+        let a = ROW_LENGTH * (n - base - 1);
+        let e = a + ROW_LENGTH;
         if is_change_by(&b[a..e], maker, cell) {
             return n;
         }
@@ -88,18 +96,32 @@ pub fn change_before(
     0
 }
 
+// The change before the scope's last one in a part of the journal, 0 for none.
+pub fn before_last_in(b: &[u8], base: usize, rows: usize, s: Scope) -> usize
+    requires { ⌜ Part (length (now b)) base rows ⌝ }
+    ensures { λ r. ⌜ (r ≡ beforeLast (rowOfPart (now (b .entry)) base rows) (scopeIn s)) × (r ≤ s .last .0) ⌝ }
+{
+    let maker = s.maker;
+    let cell = s.cell;
+    change_before(
+        b,
+        base,
+        rows,
+        s.first.0 as usize,
+        s.last.0 as usize,
+        maker,
+        cell,
+    )
+}
+
 // The change before the scope's last one, 0 for none: it waits in the tail, or else stands in the log.
 pub fn before_last(c: Control, log: &[u8], tail: &[u8], s: Scope) -> usize
     requires { ⌜ Sizes c (length (now log)) (length (now tail)) ⌝ }
     ensures { λ r. ⌜ (r ≡ beforeLast (lookUp (journal c (now (log .entry)) (now (tail .entry)))) (scopeIn s)) × (r ≤ s .last .0) ⌝ }
 {
-    let maker = s.maker;
-    let cell = s.cell;
-    let first = s.first.0 as usize;
-    let last = s.last.0 as usize;
-    let waits = change_before(tail, c.stored, c.waiting, first, last, maker, cell);
+    let waits = before_last_in(tail, c.stored, c.waiting, s);
     if waits != 0 {
         return waits;
     }
-    change_before(log, 0, c.stored, first, last, maker, cell)
+    before_last_in(log, 0, c.stored, s)
 }

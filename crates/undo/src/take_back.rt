@@ -3,8 +3,9 @@ ghost use mathlib.Core.Path.{_≡_};
 ghost use mathlib.Core.Bool.{cond};
 ghost use Prim.Native.Nat.{_+_, _<_, _≤_};
 ghost use lib.ListN.{length};
+ghost use Rattle.book.specs.Limits.{scopeLimit};
 ghost use Rattle.rows.specs.Meaning.{meant};
-ghost use Rattle.tables_model.specs.Entries.{entries};
+ghost use Rattle.tables_model.specs.Layout.{flatLength, entries};
 ghost use Rattle.undo.specs.Writing.{Fits};
 ghost use Rattle.state.specs.World.{isOpenPhase};
 ghost use Rattle.tables_model.specs.Table.{highest as highestIn};
@@ -48,7 +49,7 @@ fn fall(
     scopes: &mut [u16],
     i: usize,
 ) -> Control
-    requires { ⌜ Fits c (length (now log)) (length (now tail)) (length (now copy)) × (length (now scopes) ≡ 448) × (i < 64) ⌝ }
+    requires { ⌜ Fits c (length (now log)) (length (now tail)) (length (now copy)) × (length (now scopes) ≡ flatLength) × (i < scopeLimit) ⌝ }
     ensures { λ r. ⌜ taking r (now (log .exit)) (now (tail .exit)) (now (copy .exit)) (now (scopes .exit))
         ≡ fallen i (taking c (now (log .entry)) (now (tail .entry)) (now (copy .entry)) (now (scopes .entry))) ⌝ }
 {
@@ -63,7 +64,7 @@ fn fall(
 
 // The entry whose last change falls next; none once the journal is closed.
 fn next_to_fall(c: Control, scopes: &[u16], used: usize, w: Whom) -> Found
-    requires { ⌜ (length (now scopes) ≡ 448) × (used ≤ 64) ⌝ }
+    requires { ⌜ (length (now scopes) ≡ flatLength) × (used ≤ scopeLimit) ⌝ }
     ensures { λ r. ⌜ (r ≡ cond (isOpenPhase (c .phase)) (highestIn w used (entries (now (scopes .entry)))) Nothing) × Reach r ⌝ }
 {
     let phase = c.phase;
@@ -83,7 +84,7 @@ pub fn take_back(
     used: usize,
     w: Whom,
 ) -> Control
-    requires { ⌜ Fits c (length (now log)) (length (now tail)) (length (now copy)) × (length (now scopes) ≡ 448) × (used ≤ 64) ⌝ }
+    requires { ⌜ Fits c (length (now log)) (length (now tail)) (length (now copy)) × (length (now scopes) ≡ flatLength) × (used ≤ scopeLimit) ⌝ }
     ensures { λ r. ⌜ taking r (now (log .exit)) (now (tail .exit)) (now (copy .exit)) (now (scopes .exit))
         ≡ fallAll (c .stored + c .waiting) w used (taking c (now (log .entry)) (now (tail .entry)) (now (copy .entry)) (now (scopes .entry))) ⌝ }
 {

@@ -2,6 +2,7 @@
 ghost use mathlib.Core.Path.{_≡_};
 ghost use lib.ListN.{length};
 ghost use Rattle.book.specs.Rows.{effect};
+ghost use Rattle.book.specs.Limits.{chartsLength};
 ghost use Rattle.charts.specs.Moves.{chartsMoved};
 ghost use Rattle.rows.specs.Meaning.{meant};
 ghost use Rattle.undo.specs.Writing.{ram, Fits, written};
@@ -15,7 +16,7 @@ use state::ram::Phase;
 
 // What row n does to the copy.
 fn apply_row(copy: &mut [u8], row: Row, n: Lsn)
-    requires { ⌜ length (now copy) ≡ 1024 ⌝ }
+    requires { ⌜ length (now copy) ≡ chartsLength ⌝ }
     ensures { λ _. ⌜ now (copy .exit) ≡ chartsMoved (now (copy .entry)) (effect (meant row)) (n .0) ⌝ }
 {
     apply_effect(copy, effect_of(row), n);

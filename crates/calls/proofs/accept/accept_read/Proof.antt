@@ -3,7 +3,7 @@ use mir.Facts.{toZ-ofZ}
 use mathlib.Core.Path.{refl, _∙_, ap}
 use mathlib.Core.Logic.{inl}
 use Rattle.book.specs.Calls.{Call}
-use Rattle.state.specs.Answers.{done}
+use Rattle.book.specs.Book.{done}
 use Rattle.calls_model.specs.Acts.{core}
 use Rattle.calls.proofs.CallSteps.{reads}
 use Rattle.calls.proofs.Leaving.{accepted-by, nothing-done}

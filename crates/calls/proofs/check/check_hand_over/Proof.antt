@@ -4,7 +4,7 @@ use mathlib.Core.List.{[]}
 use native.Mathlib.Omega.{arith}
 use borrow.Author.Tests.{not-true, not-false}
 use Rattle.book.specs.Calls.{Call}
-use Rattle.tables_model.specs.Entries.{entries}
+use Rattle.tables_model.specs.Layout.{entries}
 use Rattle.tables_model.specs.Visits.{tablesIn}
 use Rattle.calls.proofs.Performing.{ready, when-not-ready, when-ready}
 use borrow.Author.Needs.{needs}

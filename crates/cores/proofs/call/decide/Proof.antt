@@ -3,9 +3,9 @@ use Prim.Native.Nat.{ℕ}
 use mathlib.Core.Path.{_≡_, ap, sym, _∙_}
 use mathlib.Core.Logic.{_≢_, inr}
 use lib.ListN.{length}
-use Rattle.book.specs.Book.{Answer}
-use Rattle.tables_model.specs.Entries.{entries}
-use Rattle.state.specs.Answers.{numberAndValue, refusedBy}
+use Rattle.book.specs.Book.{Answer, refusedBy}
+use Rattle.tables_model.specs.Layout.{entries}
+use Rattle.state.specs.Answers.{numberAndValue}
 use Rattle.state.specs.Requests.{callOf}
 use Rattle.state.specs.World.{World, world}
 use Rattle.state.proofs.Cases.{refusal-case}
@@ -35,7 +35,7 @@ numbered : (c : tie.After-check) → let s = c .before .before .before .before .
 numbered c =
     let s = c .before .before .before .before .before .before .before .before .before .before .before .before .before .before .before .before in
     let x = s .args in
-    rw (c .before .before .before .before .control-of .ensures, c .before .before .before .counts-of .ensures) at (c .check .ensures) ∙
+    rw (c .before .before .before .before .control-in .ensures, c .before .before .before .counts-in .ensures) at (c .check .ensures) ∙
     ap refusedBy (right-number (x .state) (x .log .now) (x .charts .now) (x .copy .now) (x .table) (c .before .before .before .before .before .before .before .before .before .visits-into .last .1 .0) (c .before .before .before .before .before .before .flat-into .last .1 .0) (callOf (x .request))
     (c .before .before .before .before .before .before .before .before .before .visits-into .ensures) (c .before .before .before .before .before .before .flat-into .ensures) (s .pre) (long s))
 
@@ -51,11 +51,11 @@ slice-aggregate-flat-into c = search needs
 flat-into-requires : tie.Need-flat-into-requires
 flat-into-requires c κs = search needs
 
-control-of-requires : tie.Need-control-of-requires
-control-of-requires c κs = search needs
+control-in-requires : tie.Need-control-in-requires
+control-in-requires c κs = search needs
 
-counts-of-requires : tie.Need-counts-of-requires
-counts-of-requires c κs = search needs
+counts-in-requires : tie.Need-counts-in-requires
+counts-in-requires c κs = search needs
 
 slice-aggregate-check : tie.Need-slice-aggregate-check
 slice-aggregate-check c = search needs
@@ -96,7 +96,7 @@ accept-requires c κs =
     let x = s .args in
     let visits = c .before .before .before .before .before .before .before .before .before .before .before .before .before .before .before .before .before .before .visits-into in
     let flat = c .before .before .before .before .before .before .before .before .before .before .before .before .before .before .before .flat-into in
-    let p = passed (c .before .before .before .before .before .before .before .before .before .before .before .before .before .control-of .result) (c .before .before .before .before .before .before .before .before .before .before .before .before .counts-of .result) (visits .last .1 .0) (entries (flat .last .1 .0)) (callOf (x .request))
+    let p = passed (c .before .before .before .before .before .before .before .before .before .before .before .before .before .control-in .result) (c .before .before .before .before .before .before .before .before .before .before .before .before .counts-in .result) (visits .last .1 .0) (entries (flat .last .1 .0)) (callOf (x .request))
     (sym (ap number (c .before .before .before .before .before .before .before .before .before .check .ensures)) ∙ sym (c .before .before .before .before .before .before .before .before .number-of .ensures) ∙ c .before .before .before .before .before .before .before .if1 .left) in (
       record {
         fits = record {
@@ -138,7 +138,7 @@ returns-2 c =
     let flat = c .before .before .before .before .before .before .before .before .before .before .before .before .before .before .before .before .before .before .before .before .before .before .before .before .before .before .before .before .flat-into in
     let k = c .before .before .before .before .before .before .before .before .before .before .before .before .before .before .before .before .before .before .before .before .before .before in (
       rw (c .out-after .ensures)
-          (rw (c .before .before .before .before .before .before .before .before .before .before .before .before .before .before .before .before .before .before .before .before .before .before .before .before .before .before .control-of .ensures, c .before .before .before .before .before .before .before .before .before .before .before .before .before .before .before .before .before .before .before .before .before .before .before .before .before .counts-of .ensures) at (a .ensures .is) ∙
+          (rw (c .before .before .before .before .before .before .before .before .before .before .before .before .before .before .before .before .before .before .before .before .before .before .before .before .before .before .control-in .ensures, c .before .before .before .before .before .before .before .before .before .before .before .before .before .before .before .before .before .before .before .before .before .before .before .before .before .counts-in .ensures) at (a .ensures .is) ∙
           when-accepted (x .state) (x .log .now) (x .charts .now) (x .copy .now) (x .table) (visits .last .1 .0) (flat .last .1 .0) (callOf (x .request)) (visits .ensures) (flat .ensures) _
           (sym (ap number (numbered k)) ∙ sym (c .before .before .before .before .before .before .before .before .before .before .before .before .before .before .before .before .before .before .before .before .before .number-of .ensures) ∙ c .before .before .before .before .before .before .before .before .before .before .before .before .before .before .before .before .before .before .before .before .if1 .left)),
       rw (c .out-after .ensures) (a .ensures .case),
@@ -152,8 +152,8 @@ decide-spec =
     visits-into-requires
     slice-aggregate-flat-into
     flat-into-requires
-    control-of-requires
-    counts-of-requires
+    control-in-requires
+    counts-in-requires
     slice-aggregate-check
     slice-aggregate-check-2
     check-requires

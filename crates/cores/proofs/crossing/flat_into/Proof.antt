@@ -5,7 +5,9 @@ use mathlib.Core.List.{map}
 use native.Mathlib.Omega.{arith}
 use lib.ListN.{length, take}
 use Rattle.book.specs.Scopes.{unused}
-use Rattle.tables_model.specs.Entries.{entries, scopeOf, scopeIn}
+use Rattle.tables_model.specs.Entries.{scopeIn}
+use Rattle.tables_model.specs.Layout.{entries}
+use Rattle.tables_model.specs.Meaning.{scopeOf}
 use Rattle.tables.proofs.Flat.{entries-length}
 use Rattle.cores.proofs.Crossings.{crossed-next, crossed-all}
 use borrow.Author.Needs.{needs}

@@ -5,7 +5,8 @@ use mathlib.Core.List.{map}
 use native.Mathlib.Omega.{arith}
 use lib.ListN.{length, take, length-set}
 use Rattle.book.specs.Scopes.{unused}
-use Rattle.tables_model.specs.Entries.{entries, scopeOf}
+use Rattle.tables_model.specs.Layout.{entries}
+use Rattle.tables_model.specs.Meaning.{scopeOf}
 use Rattle.tables.proofs.Flat.{entries-length}
 use Rattle.cores.proofs.Crossings.{crossed-next, crossed-all}
 use Rattle.cores.proofs.crossing.table_from.Statement.{statement}

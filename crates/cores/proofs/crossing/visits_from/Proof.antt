@@ -4,7 +4,8 @@ use mathlib.Core.Path.{_≡_, refl, ap, _∙_}
 use mathlib.Core.List.{map, map-id}
 use native.Mathlib.Omega.{arith}
 use lib.ListN.{length, take, length-set}
-use Rattle.tables_model.specs.Visits.{vacant, actives}
+use Rattle.tables_model.specs.Meaning.{vacant}
+use Rattle.tables_model.specs.Layout.{actives}
 use Rattle.tables.proofs.Places.{actives-length}
 use Rattle.cores.proofs.Crossings.{crossed-next, crossed-all}
 use Rattle.cores.proofs.crossing.visits_from.Statement.{statement}

@@ -4,7 +4,8 @@ use mathlib.Core.Path.{_≡_, refl, _∙_}
 use mathlib.Core.List.{map, map-id}
 use native.Mathlib.Omega.{arith}
 use lib.ListN.{length, take}
-use Rattle.tables_model.specs.Visits.{vacant, actives}
+use Rattle.tables_model.specs.Meaning.{vacant}
+use Rattle.tables_model.specs.Layout.{actives}
 use Rattle.tables.proofs.Places.{actives-length}
 use Rattle.cores.proofs.Crossings.{crossed-next, crossed-all}
 use borrow.Author.Needs.{needs}

@@ -3,7 +3,7 @@ use mathlib.Core.Path.{ap}
 use lib.ListN.{replicate}
 use borrow.Author.Needs.{needs}
 use Rattle.book.specs.Scopes.{Scope}
-use Rattle.tables_model.specs.Entries.{scopeOf}
+use Rattle.tables_model.specs.Meaning.{scopeOf}
 use Rattle.cores.proofs.entries.blank.Statement.{statement}
 use Rattle.cores.proofs.entries.blank.Tie as tie
 

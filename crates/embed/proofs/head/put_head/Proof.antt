@@ -3,7 +3,7 @@ use mathlib.Core.Path.{_≡_, ap, _∙_}
 use mathlib.Core.List.{[], _∷_}
 use native.Mathlib.Omega.{arith}
 use lib.ListN.{length-set}
-use Rattle.embed_model.specs.Arrays.{countsIn, headOf}
+use Rattle.embed_model.specs.Head.{countsBy, headOf}
 use Rattle.embed_model.proofs.Arrays.{counts-back}
 use Rattle.embed.proofs.Eight.{eight-set}
 use borrow.Author.Needs.{needs}
@@ -72,7 +72,7 @@ returns c =
     let are : p .result ∷ k .result ∷ l .result ∷ x .c .stored ∷ x .c .waiting ∷ x .t .begun ∷ x .t .count ∷ x .t .used ∷ [] ≡ headOf (x .c) (x .t) =
     rw (p .ensures, k .ensures, l .ensures) in
     let e = set ∙ are in
-    (e, ap countsIn e ∙ counts-back (x .c) (x .t) (search needs))
+    (e, ap countsBy e ∙ counts-back (x .c) (x .t) (search needs))
 
 pub put-head-spec : {M : Type 1} → statement M
 put-head-spec =

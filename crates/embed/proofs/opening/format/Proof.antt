@@ -9,7 +9,7 @@ use Rattle.state.specs.World.{rightLengths}
 use Rattle.embed_model.specs.Arrays.{Arrays, arrays, worldIn}
 use Rattle.embed_model.proofs.Refused.{format-refused}
 use Rattle.embed.proofs.Calling.{wrong-stored, right-stored, stored-lengths}
-use Rattle.embed.proofs.Restarting.{zero-bounded, refused-format, done-format, opening}
+use Rattle.embed.proofs.Restarting.{zero-bounded, refused-format, done-format}
 use borrow.Author.Needs.{needs}
 use Rattle.embed.proofs.opening.format.Statement.{statement}
 use Rattle.embed.proofs.opening.format.Tie as tie

@@ -12,8 +12,11 @@ use Rattle.embed.proofs.packed.joined.Tie as tie
 mul-result : tie.Need-mul-result
 mul-result c = search needs
 
-bits-requires : tie.Need-bits-requires
-bits-requires c κs = search needs
+bits32-requires : tie.Need-bits32-requires
+bits32-requires c κs = search needs
+
+cast-result : tie.Need-cast-result
+cast-result c = search needs
 
 add-result : tie.Need-add-result
 add-result c = search needs
@@ -25,7 +28,7 @@ returns : tie.Need-returns
 returns c =
     let s = c .before in
     let x = s .args in
-    answer-packed (x .number) (x .value) (c .bits .result) (value-fits s) (c .bits .ensures .0 ∙ ap (bitsOf 32) (toZ-ofZ (value-fits s))) (c .bits .ensures .1)
+    answer-packed (x .number) (x .value) (c .bits32 .result) (value-fits s) (c .bits32 .ensures ∙ ap (bitsOf 32) (toZ-ofZ (value-fits s)))
 
 pub joined-spec : {M : Type 1} → statement M
-joined-spec = tie.close (tie.spec mul-result bits-requires add-result returns)
+joined-spec = tie.close (tie.spec mul-result bits32-requires cast-result add-result returns)

@@ -9,9 +9,10 @@ use mir.Facts.{toZ-ofZ}
 use Rattle.book.specs.Limits.{logLength, chartsLength}
 use Rattle.book.specs.Calls.{Call, Typed}
 use Rattle.rows.proofs.Fit.{amount-in-range}
-use Rattle.state.specs.Answers.{numberAndValue, refusedBy}
+use Rattle.state.specs.Answers.{numberAndValue}
+use Rattle.book.specs.Book.{refusedBy}
 use Rattle.state.specs.World.{rightLengths}
-use Rattle.embed_model.specs.Arrays.{Arrays, arrays, worldIn, Lengths}
+use Rattle.embed_model.specs.Arrays.{Arrays, arrays, worldIn, RamLengths}
 use Rattle.embed_model.proofs.Refused.{call-refused}
 use Rattle.embed.proofs.Calling.{wrong-stored, right-stored, stored-lengths, numberIn, refused, passes, accepts, accepted-call}
 use borrow.Author.Needs.{needs}
@@ -25,7 +26,7 @@ given s = let a = s .args in arrays (a .head .now) (a .visits .now) (a .scopes .
 abbrev call : tie.Start → Call
 call s = Call.change (s .args .visit) (s .args .cell) (s .args .amount)
 
-long : (s : tie.Start) → Lengths (given s)
+long : (s : tie.Start) → RamLengths (given s)
 long s = s .pre
 
 typed : (s : tie.Start) → Typed (call s)

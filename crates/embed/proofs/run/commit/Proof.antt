@@ -6,10 +6,11 @@ use lib.Dec.{eqb}
 use borrow.Author.Tests.{not-true, not-false}
 use Rattle.book.specs.Limits.{logLength, chartsLength}
 use Rattle.book.specs.Calls.{Call, Typed}
-use Rattle.tables_model.specs.Entries.{entries}
-use Rattle.state.specs.Answers.{numberAndValue, refusedBy}
+use Rattle.tables_model.specs.Layout.{entries}
+use Rattle.state.specs.Answers.{numberAndValue}
+use Rattle.book.specs.Book.{refusedBy}
 use Rattle.state.specs.World.{rightLengths}
-use Rattle.embed_model.specs.Arrays.{Arrays, arrays, worldIn, Lengths}
+use Rattle.embed_model.specs.Arrays.{Arrays, arrays, worldIn, RamLengths}
 use Rattle.embed_model.proofs.Refused.{call-refused}
 use Rattle.embed.proofs.Calling.{wrong-stored, right-stored, stored-lengths, numberIn, refused, passes, accepts, accepted-call}
 use borrow.Author.Needs.{needs}
@@ -23,7 +24,7 @@ given s = let a = s .args in arrays (a .head .now) (a .visits .now) (a .scopes .
 abbrev call : tie.Start → Call
 call s = Call.commit (s .args .visit)
 
-long : (s : tie.Start) → Lengths (given s)
+long : (s : tie.Start) → RamLengths (given s)
 long s = s .pre
 
 typed : (s : tie.Start) → Typed (call s)

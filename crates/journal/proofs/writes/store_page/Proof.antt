@@ -1,9 +1,11 @@
 -- `journal::writes::store_page` meets its contract. Assumes nothing.
-use Prim.Native.Nat.{_+_, _*_, _-_}
+use Prim.Native.Nat.{_*_}
 use native.Mathlib.Omega.{arith}
-use mathlib.Core.Path.{_≡_, _∙_}
-use lib.ListN.{length-take, length-drop}
-use Rattle.journal.proofs.Shifts.{copied}
+use mathlib.Core.Path.{_≡_, sym, _∙_}
+use mathlib.Core.List.{_++_}
+use lib.ListN.{take, drop, length-drop}
+use lib.Seq.{take-add, take-all, length-take-le}
+use Rattle.journal.proofs.Shifts.{put-both}
 use borrow.Author.Needs.{needs}
 use Rattle.journal.proofs.writes.store_page.Statement.{statement}
 use Rattle.journal.proofs.writes.store_page.Tie as tie
@@ -14,32 +16,35 @@ spend-requires c κs = search needs
 enum-told : tie.Need-enum-told
 enum-told c = search needs
 
-mul-a : tie.Need-mul-a
-mul-a c = search needs
+mul-at : tie.Need-mul-at
+mul-at c = search needs
 
-add-e : tie.Need-add-e
-add-e c = search needs
+add-put-sixteen : tie.Need-add-put-sixteen
+add-put-sixteen c = search needs
 
-slice-aggregate-copy : tie.Need-slice-aggregate-copy
-slice-aggregate-copy c = search needs
+sub-put-sixteen : tie.Need-sub-put-sixteen
+sub-put-sixteen c = search needs
 
-copy-requires : tie.Need-copy-requires
-copy-requires c κs = search needs
+part-put-sixteen-start : tie.Need-part-put-sixteen-start
+part-put-sixteen-start c = search needs
 
-slice-aggregate-copy-2 : tie.Need-slice-aggregate-copy-2
-slice-aggregate-copy-2 c = search needs
+part-put-sixteen-end : tie.Need-part-put-sixteen-end
+part-put-sixteen-end c = search needs
 
-sub-copy : tie.Need-sub-copy
-sub-copy c = search needs
+put-sixteen-requires : tie.Need-put-sixteen-requires
+put-sixteen-requires c κs = search needs
 
-part-copy-start : tie.Need-part-copy-start
-part-copy-start c = search needs
+sub-put-sixteen-2 : tie.Need-sub-put-sixteen-2
+sub-put-sixteen-2 c = search needs
 
-part-copy-end : tie.Need-part-copy-end
-part-copy-end c = search needs
+part-put-sixteen-start-2 : tie.Need-part-put-sixteen-start-2
+part-put-sixteen-start-2 c = search needs
 
-copy-requires-2 : tie.Need-copy-requires-2
-copy-requires-2 c κs = search needs
+part-put-sixteen-end-2 : tie.Need-part-put-sixteen-end-2
+part-put-sixteen-end-2 c = search needs
+
+put-sixteen-requires-2 : tie.Need-put-sixteen-requires-2
+put-sixteen-requires-2 c κs = search needs
 
 enum-told-2 : tie.Need-enum-told-2
 enum-told-2 c = search needs
@@ -49,14 +54,19 @@ same-length c = search needs
 
 returns : tie.Need-returns
 returns c =
-    let w = c .before .before .before .before .before .before in
-    let s = w .before .before .before .before in
+    let e = c .before .before .before .before .before .before .before .before .before .before in
+    let s = e .before .before in
     let a = s .before .before .before .args in
-    let e : 32 * a .p + 32 - 32 * a .p ≡ 32 = omega arith in
-    let held = w .copy .ensures .1 ∙ copied (a .page .now) _ (omega arith) in
-    let written = rw held at (c .before .before .copy2 .ensures .1) in
-    let f = written ∙ copied (a .page .now) _ (simp (length-take, length-drop) (omega arith)) in
-    (s .spend .ensures, rw (← (s .spend .ensures), w .before .before .enum-told .given .1, e, f))
+    let page = a .page .now in
+    let front = take 16 page in
+    let back = take 16 (drop 16 page) in
+    let long = length-take-le 16 page (omega arith) in
+    let rest = length-take-le 16 (drop 16 page) (simp length-drop (omega arith)) in
+    let whole : front ++ back ≡ page = sym (take-add 16 16 page) ∙ take-all 32 page (omega arith) in
+    let one = c .before .before .before .before .before .before .before .put-sixteen .ensures in
+    let both = put-both (a .charts .now) front back (32 * a .p) 16 16 long rest (omega arith) in
+    let f = rw one at (c .before .before .put-sixteen2 .ensures) in
+    (s .spend .ensures, rw (← (s .spend .ensures), e .enum-told .given .1, f, both, whole))
 
 returns-2 : tie.Need-returns-2
 returns-2 c = search needs
@@ -67,15 +77,16 @@ store-page-spec =
     (tie.spec
     spend-requires
     enum-told
-    mul-a
-    add-e
-    slice-aggregate-copy
-    copy-requires
-    slice-aggregate-copy-2
-    sub-copy
-    part-copy-start
-    part-copy-end
-    copy-requires-2
+    mul-at
+    add-put-sixteen
+    sub-put-sixteen
+    part-put-sixteen-start
+    part-put-sixteen-end
+    put-sixteen-requires
+    sub-put-sixteen-2
+    part-put-sixteen-start-2
+    part-put-sixteen-end-2
+    put-sixteen-requires-2
     enum-told-2
     same-length
     returns

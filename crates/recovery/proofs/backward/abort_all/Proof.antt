@@ -6,7 +6,8 @@ use native.Mathlib.Omega.{arith}
 use lib.ListN.{length, getD}
 use Rattle.book.specs.Rows.{Row}
 use Rattle.tables_model.specs.declared.Active.{Active}
-use Rattle.tables_model.specs.Visits.{actives, vacant}
+use Rattle.tables_model.specs.Layout.{actives}
+use Rattle.tables_model.specs.Meaning.{vacant}
 use Rattle.undo.proofs.Counters.{counters, counters-written, fits-again}
 use Rattle.undo.specs.Writing.{ram, Fits, written}
 use Rattle.recovery_model.specs.Backward.{abortAll}

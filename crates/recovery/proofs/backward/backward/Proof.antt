@@ -7,7 +7,7 @@ use lib.ListN.{length}
 use borrow.Author.Needs.{needs}
 use Rattle.state.specs.declared.ram.Phase.the-variants.{Open}
 use Rattle.tables_model.specs.declared.Whom.the-variants.{All}
-use Rattle.tables_model.specs.Visits.{actives}
+use Rattle.tables_model.specs.Layout.{actives}
 use Rattle.undo.proofs.Counters.{Counters, counters, counters-fallAll, fits-again}
 use Rattle.undo.specs.TakeBack.{taking}
 use Rattle.undo.specs.Writing.{ram, Fits}

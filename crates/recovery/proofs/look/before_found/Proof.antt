@@ -1,7 +1,10 @@
 -- `recovery::look::before_found` meets its contract. Assumes nothing.
+use mathlib.Core.Path.{_∙_}
 use borrow.Author.Needs.{needs}
 use Rattle.tables_model.specs.declared.Found.the-variants.{At}
+use Rattle.tables_model.specs.Entries.{scopeIn}
 use Rattle.tables_model.specs.Table.{Reaches}
+use Rattle.recovery.proofs.LookUps.{before-in-log}
 use Rattle.recovery.proofs.look.before_found.Statement.{statement}
 use Rattle.recovery.proofs.look.before_found.Tie as tie
 
@@ -14,14 +17,20 @@ entry-at-requires c κs =
     let k : Reaches _ (At (c .before .found .given .0 .0)) = rw (c .before .found .given .1) at (s .pre .1) in
     record { long = k .0; below = k .1 }
 
-before-last-requires : tie.Need-before-last-requires
-before-last-requires c κs = search needs
+before-last-in-requires : tie.Need-before-last-in-requires
+before-last-in-requires c κs = search needs
+
+cast-t9 : tie.Need-cast-t9
+cast-t9 c = search needs
 
 enum-told : tie.Need-enum-told
 enum-told c = search needs
 
 returns : tie.Need-returns
-returns c = rw (c .before .before .before .found .given .1, ← (c .before .entry-at .ensures)) (c .before-last .ensures)
+returns c =
+    let s = c .before .before .before .before .before .before .before in
+    rw (c .before .before .before .found .given .1, ← (c .before .entry-at .ensures))
+    (c .before-last-in .ensures .0 ∙ before-in-log (s .args .log .now) (s .args .k) (scopeIn (c .before .entry-at .result)))
 
 returns-2 : tie.Need-returns-2
 returns-2 c = search needs
@@ -29,4 +38,4 @@ returns-2 c = search needs
 pub before-found-spec : {M : Type 1} → statement M
 before-found-spec =
     tie.close
-    (tie.spec enum-known-found entry-at-requires before-last-requires enum-told returns returns-2)
+    (tie.spec enum-known-found entry-at-requires before-last-in-requires cast-t9 enum-told returns returns-2)

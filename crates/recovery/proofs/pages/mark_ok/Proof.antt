@@ -4,6 +4,7 @@ use borrow.Author.Tests.{eq-eqb, ne-eqb}
 use borrow.Author.Needs.{needs}
 use Rattle.book.specs.Cells.{touches}
 use Rattle.recovery_model.specs.Scan.{rowIn}
+use Rattle.recovery.proofs.LookUps.{row-of-log}
 use Rattle.recovery.proofs.PageTurns.{effect-coded}
 use Rattle.recovery.proofs.pages.mark_ok.Statement.{statement}
 use Rattle.recovery.proofs.pages.mark_ok.Tie as tie
@@ -11,11 +12,11 @@ use Rattle.recovery.proofs.pages.mark_ok.Tie as tie
 returns : tie.Need-returns
 returns c = rw (eq-eqb _ _ (c .if1 .taken))
 
-cast-row-in-log : tie.Need-cast-row-in-log
-cast-row-in-log c = search needs
+cast-row-of-part : tie.Need-cast-row-of-part
+cast-row-of-part c = search needs
 
-row-in-log-requires : tie.Need-row-in-log-requires
-row-in-log-requires c κs = search needs
+row-of-part-requires : tie.Need-row-of-part-requires
+row-of-part-requires c κs = search needs
 
 effect-of-requires : tie.Need-effect-of-requires
 effect-of-requires c κs = search needs
@@ -27,15 +28,15 @@ returns-2 : tie.Need-returns-2
 returns-2 c =
     let a = c .before .before .before .before .before .before .before .args in
     rw (ne-eqb _ _ (c .before .before .before .before .if1 .left))
-    (c .touches-page .ensures ∙ rw (c .before .effect-of .ensures, c .before .before .row-in-log .ensures) (ap (touches (a .p)) (effect-coded (rowIn (a .log .now) (a .rows) (a .mark .0)))))
+    (c .touches-page .ensures ∙ rw (c .before .effect-of .ensures, c .before .before .row-of-part .ensures, row-of-log (a .log .now) (a .rows) (a .mark .0)) (ap (touches (a .p)) (effect-coded (rowIn (a .log .now) (a .rows) (a .mark .0)))))
 
 pub mark-ok-spec : {M : Type 1} → statement M
 mark-ok-spec =
     tie.close
     (tie.spec
     returns
-    cast-row-in-log
-    row-in-log-requires
+    cast-row-of-part
+    row-of-part-requires
     effect-of-requires
     touches-page-requires
     returns-2)

@@ -3,14 +3,14 @@ use mathlib.Core.Path.{_≡_, sym, _∙_}
 use Prim.Native.Nat.{_-_, _≤_}
 use native.Mathlib.Omega.{arith}
 use lib.ListN.{length}
-use Rattle.run_reader.specs.File.{entryAt, areBodies}
+use Rattle.run_reader.specs.File.{sessionEntryAt, areBodies}
 use Rattle.run_reader.proofs.Bodies.{gap, beyond, other, body, bodies-end}
 use Rattle.run_reader.proofs.file.are_bodies.Statement.{statement}
 use Rattle.run_reader.proofs.file.are_bodies.Tie as tie
 
 abbrev Inv-loop : tie.InvT-loop
 Inv-loop file sessions at₀ i₀ at i =
-    (i ≤ sessions) × (at ≤ length file) × (areBodies sessions 0 (entryAt sessions) file ≡ areBodies (sessions - i) i at file)
+    (i ≤ sessions) × (at ≤ length file) × (areBodies sessions 0 (sessionEntryAt sessions) file ≡ areBodies (sessions - i) i at file)
 
 abbrev μ-loop : tie.MeasureT-loop
 μ-loop file sessions at₀ i₀ at i = sessions - i

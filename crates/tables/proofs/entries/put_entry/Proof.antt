@@ -1,118 +1,88 @@
 -- `tables::entries::put_entry` meets its contract. Assumes nothing.
+use mathlib.Core.Path.{_∙_}
+use native.Mathlib.Nat.{add-zero}
 use native.Mathlib.Omega.{arith}
-use lib.ListN.{length-set}
-use borrow.Author.Needs.{needs}
 use Rattle.tables.proofs.Flat.{stores-set}
+use borrow.Author.Needs.{needs}
 use Rattle.tables.proofs.entries.put_entry.Statement.{statement}
 use Rattle.tables.proofs.entries.put_entry.Tie as tie
 
 flag-of-requires : tie.Need-flag-of-requires
 flag-of-requires c κs = search needs
 
-mul-at : tie.Need-mul-at
-mul-at c = search needs
+put-number-requires : tie.Need-put-number-requires
+put-number-requires c κs = search needs
 
-mul-t : tie.Need-mul-t
-mul-t c = search needs
+put-number-requires-2 : tie.Need-put-number-requires-2
+put-number-requires-2 c κs = search needs
 
-slice-write-t : tie.Need-slice-write-t
-slice-write-t c = search needs
+cast-put-number : tie.Need-cast-put-number
+cast-put-number c = search needs
 
-add-t : tie.Need-add-t
-add-t c = search needs
+put-number-requires-3 : tie.Need-put-number-requires-3
+put-number-requires-3 c κs = search needs
 
-mul-t-2 : tie.Need-mul-t-2
-mul-t-2 c = search needs
+put-number-requires-4 : tie.Need-put-number-requires-4
+put-number-requires-4 c κs = search needs
 
-slice-write-t-2 : tie.Need-slice-write-t-2
-slice-write-t-2 c = simp length-set (omega arith)
+put-number-requires-5 : tie.Need-put-number-requires-5
+put-number-requires-5 c κs = search needs
 
-cast-t : tie.Need-cast-t
-cast-t c = search needs
+put-number-requires-6 : tie.Need-put-number-requires-6
+put-number-requires-6 c κs = search needs
 
-add-t-2 : tie.Need-add-t-2
-add-t-2 c = search needs
-
-mul-t-3 : tie.Need-mul-t-3
-mul-t-3 c = search needs
-
-slice-write-t-3 : tie.Need-slice-write-t-3
-slice-write-t-3 c = simp length-set (omega arith)
-
-add-t-3 : tie.Need-add-t-3
-add-t-3 c = search needs
-
-mul-t-4 : tie.Need-mul-t-4
-mul-t-4 c = search needs
-
-slice-write-t-4 : tie.Need-slice-write-t-4
-slice-write-t-4 c = simp length-set (omega arith)
-
-add-t-4 : tie.Need-add-t-4
-add-t-4 c = search needs
-
-mul-t-5 : tie.Need-mul-t-5
-mul-t-5 c = search needs
-
-slice-write-t-5 : tie.Need-slice-write-t-5
-slice-write-t-5 c = simp length-set (omega arith)
-
-add-t-5 : tie.Need-add-t-5
-add-t-5 c = search needs
-
-mul-t-6 : tie.Need-mul-t-6
-mul-t-6 c = search needs
-
-slice-write-t-6 : tie.Need-slice-write-t-6
-slice-write-t-6 c = simp length-set (omega arith)
-
-add-t-6 : tie.Need-add-t-6
-add-t-6 c = search needs
-
-mul-t-7 : tie.Need-mul-t-7
-mul-t-7 c = search needs
-
-slice-write-t-7 : tie.Need-slice-write-t-7
-slice-write-t-7 c = simp length-set (omega arith)
+put-number-requires-7 : tie.Need-put-number-requires-7
+put-number-requires-7 c κs =
+    let sixth = c .before .before .before in
+    let fifth = sixth .before .before .before .before in
+    let fourth = fifth .before .before .before .before in
+    let third = fourth .before .before .before .before in
+    let second = third .before .before .before .before .before in
+    let first = second .before .before .before .before in
+    let s = first .before .before .before .before in
+    let long =
+    sixth .put-number6 .kept .0 ∙ fifth .put-number5 .kept .0 ∙ fourth .put-number4 .kept .0 ∙ third .put-number3 .kept .0 ∙ second .put-number2 .kept .0 ∙ first .put-number .kept .0 ∙ s .pre .long in
+    (record { long = long; below = s .pre .below }, omega arith)
 
 same-length : tie.Need-same-length
 same-length c = search needs
 
 returns : tie.Need-returns
 returns c =
-    let s = c .before .before .before in
-    let t = s .args .t .now in
+    let last = c .before .before in
+    let sixth = last .before .before .before .before in
+    let fifth = sixth .before .before .before .before in
+    let fourth = fifth .before .before .before .before in
+    let third = fourth .before .before .before .before in
+    let second = third .before .before .before .before .before in
+    let first = second .before .before .before .before in
+    let s = first .before .before .before .before in
     let e = s .args .e in
-    let m = s .pre in
-    rw (c .before .flag-of .ensures)
-    (stores-set t (s .args .i) (e .maker .0) (e .holder .0) (e .cell .0) (e .first .0) (e .last .0) (e .count) (e .handed) (m .below) (m .long) (omega arith))
+    rw (
+      last .put-number7 .ensures,
+      sixth .put-number6 .ensures,
+      fifth .put-number5 .ensures,
+      fourth .put-number4 .ensures,
+      third .put-number3 .ensures,
+      second .put-number2 .ensures,
+      first .put-number .ensures,
+      add-zero,
+      first .before .before .flag-of .ensures,
+    )
+    (stores-set (s .args .t .now) (s .args .i) (e .maker .0) (e .holder .0) (e .cell .0) (e .first .0) (e .last .0) (e .count) (e .handed) (s .pre .below) (s .pre .long) (omega (arith, third .before .struct-known .given)))
 
 pub put-entry-spec : {M : Type 1} → statement M
 put-entry-spec =
     tie.close
     (tie.spec
     flag-of-requires
-    mul-at
-    mul-t
-    slice-write-t
-    add-t
-    mul-t-2
-    slice-write-t-2
-    cast-t
-    add-t-2
-    mul-t-3
-    slice-write-t-3
-    add-t-3
-    mul-t-4
-    slice-write-t-4
-    add-t-4
-    mul-t-5
-    slice-write-t-5
-    add-t-5
-    mul-t-6
-    slice-write-t-6
-    add-t-6
-    mul-t-7
-    slice-write-t-7
+    put-number-requires
+    put-number-requires-2
+    cast-put-number
+    put-number-requires-3
+    put-number-requires-4
+    put-number-requires-5
+    put-number-requires-6
+    put-number-requires-7
     same-length
     returns)

@@ -6,7 +6,7 @@ use native.Mathlib.Omega.{arith}
 use lib.ListN.{getD, take}
 use Rattle.book.specs.Scopes.{unused}
 use Rattle.tables_model.specs.declared.Found.the-variants.{At}
-use Rattle.tables_model.specs.Entries.{entries}
+use Rattle.tables_model.specs.Layout.{entries}
 use Rattle.tables_model.specs.Table.{findFrom, find, grows}
 use Rattle.tables.proofs.Loops.{left, left-end}
 use Rattle.tables.proofs.Searches.{find-next}

@@ -7,7 +7,7 @@ use lib.ListN.{take}
 use borrow.Author.Tests.{lt-ltb, le-ltb, eq-eqb, ne-eqb}
 use Rattle.tables_model.specs.declared.Found.the-variants.{Nothing}
 use Rattle.tables_model.specs.Table.{highestFrom, highest}
-use Rattle.tables_model.specs.Entries.{entries}
+use Rattle.tables_model.specs.Layout.{entries}
 use Rattle.tables.proofs.Loops.{left, left-end}
 use Rattle.tables.proofs.Searches.{foundAt, highest-next}
 use Rattle.tables.proofs.lookup.highest.Statement.{statement}

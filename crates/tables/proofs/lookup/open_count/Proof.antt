@@ -2,9 +2,12 @@
 use Prim.Native.Nat.{_*_, _+_, _-_, _≤_}
 use mathlib.Core.Path.{_≡_, _∙_}
 use native.Mathlib.Omega.{arith}
-use lib.ListN.{take}
-use Rattle.tables_model.specs.Entries.{entries}
+use lib.ListN.{take, getD}
+use borrow.Author.Needs.{needs}
+use Rattle.book.specs.Scopes.{unused}
+use Rattle.tables_model.specs.Layout.{entries}
 use Rattle.tables_model.specs.Table.{countAll, openCount}
+use Rattle.tables.proofs.Flat.{entries-at}
 use Rattle.tables.proofs.Loops.{left, left-end}
 use Rattle.tables.proofs.Searches.{count-next}
 use Rattle.tables.proofs.lookup.open_count.Statement.{statement}
@@ -23,8 +26,11 @@ loop-holds c = (omega arith, omega arith, omega arith)
 count-at-requires : tie.Need-count-at-requires Inv-loop μ-loop
 count-at-requires c κs = record { long = c .before .before .before .pre .long; below = omega (arith, c .before .before .before .pre .within) }
 
+cast-sum : tie.Need-cast-sum Inv-loop μ-loop
+cast-sum c = search needs
+
 add-sum : tie.Need-add-sum Inv-loop μ-loop
-add-sum c = omega (arith, c .before .before .before .before .pre .within, c .count-at .ensures .small)
+add-sum c = omega (arith, c .before .before .before .before .pre .within, c .count-at .ok)
 
 add-i : tie.Need-add-i Inv-loop μ-loop
 add-i c = omega arith
@@ -36,9 +42,10 @@ loop-again : tie.Need-loop-again Inv-loop μ-loop
 loop-again c =
     let s = c .before .before .before .before in
     let l = c .before .before .loop in
-    let e = c .count-at .ensures in
     let turn = count-next (s .args .t .now) (s .args .used) (l .i) (c .before .loop-test .taken) (s .pre .within) in
-    (omega arith, omega (arith, e .small), l .inv .2 ∙ omega (arith, e .count, turn))
+    let e : c .count-at .result ≡ getD (entries (s .args .t .now)) (l .i) unused .count =
+    rw (entries-at (s .args .t .now) (l .i) (omega (arith, s .pre .within))) (c .count-at .ensures) in
+    (omega arith, omega (arith, c .count-at .ok), l .inv .2 ∙ omega (arith, e, turn))
 
 returns : tie.Need-returns Inv-loop μ-loop
 unfolding openCount
@@ -56,6 +63,7 @@ open-count-spec =
     μ-loop
     loop-holds
     count-at-requires
+    cast-sum
     add-sum
     add-i
     loop-less

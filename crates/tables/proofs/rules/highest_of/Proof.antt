@@ -8,13 +8,13 @@ use Rattle.tables.proofs.rules.highest_of.Tie as tie
 highest-requires : tie.Need-highest-requires
 highest-requires c κs = search needs
 
-last-at-requires : tie.Need-last-at-requires
-last-at-requires c κs =
+last-found-requires : tie.Need-last-found-requires
+last-found-requires c κs =
     let s = c .before .before in reaches _ _ _ _ _ (c .highest .ensures) (s .pre .range .used) (s .pre .long)
 
 returns : tie.Need-returns
 unfolding highestOf
-returns c vs = rw (c .last-at .ensures, c .before .highest .ensures)
+returns c vs = rw (c .last-found .ensures, c .before .highest .ensures)
 
 pub highest-of-spec : {M : Type 1} → statement M
-highest-of-spec = tie.close (tie.spec highest-requires last-at-requires returns)
+highest-of-spec = tie.close (tie.spec highest-requires last-found-requires returns)

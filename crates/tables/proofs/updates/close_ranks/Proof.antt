@@ -4,8 +4,8 @@ use mathlib.Core.Path.{_≡_, refl, sym, _∙_, ap}
 use native.Mathlib.Omega.{arith}
 use lib.Seq.{length-take-le}
 use lib.ListN.{length}
-use Rattle.tables_model.specs.Table.{leftBy, Scopes, scopesIn}
-use Rattle.tables_model.specs.Entries.{entries}
+use Rattle.tables_model.specs.Table.{heldByOthers, Scopes, scopesIn}
+use Rattle.tables_model.specs.Layout.{entries}
 use Rattle.tables.proofs.Ending.{heldByOther, Move, move}
 use Rattle.tables.proofs.Loops.{ranks, ranks-end}
 use Rattle.tables.proofs.Flat.{entries-length}
@@ -15,7 +15,7 @@ use Rattle.tables.proofs.updates.close_ranks.Tie as tie
 abbrev Inv-loop : tie.InvT-loop
 Inv-loop t₀ used v kept₀ i₀ t kept i =
     let p = heldByOther (v .0) in
-    (i ≤ used) × (kept ≤ i) × (length t ≡ length t₀) × (ranks p used kept i (entries t) ≡ leftBy used (v .0) (entries t₀))
+    (i ≤ used) × (kept ≤ i) × (length t ≡ length t₀) × (ranks p used kept i (entries t) ≡ heldByOthers used (v .0) (entries t₀))
 
 abbrev μ-loop : tie.MeasureT-loop
 μ-loop t₀ used v kept₀ i₀ t kept i = used - i

@@ -5,7 +5,7 @@ use native.Mathlib.Omega.{arith}
 use lib.ListN.{length}
 use Rattle.book.specs.Scopes.{unused}
 use Rattle.tables_model.specs.Table.{among, handedOn, scopesHanded}
-use Rattle.tables_model.specs.Entries.{entries}
+use Rattle.tables_model.specs.Layout.{entries}
 use Rattle.tables.proofs.Loops.{mapped, mapped-next}
 use Rattle.tables.proofs.Flat.{entries-length}
 use Rattle.tables.proofs.updates.hand_over.Statement.{statement}

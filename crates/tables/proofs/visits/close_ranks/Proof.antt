@@ -5,7 +5,8 @@ use native.Mathlib.Omega.{arith}
 use lib.Seq.{length-take-le}
 use lib.ListN.{length, take}
 use Rattle.book.specs.Lists.{keep}
-use Rattle.tables_model.specs.Visits.{actives, Places, placesIn}
+use Rattle.tables_model.specs.Visits.{Places, placesIn}
+use Rattle.tables_model.specs.Layout.{actives}
 use Rattle.tables.proofs.Ending.{stays, Turn, turn}
 use Rattle.tables.proofs.Loops.{ranks, ranks-end}
 use Rattle.tables.proofs.Places.{actives-length}

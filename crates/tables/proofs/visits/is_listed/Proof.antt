@@ -5,7 +5,9 @@ use mathlib.Core.Path.{_≡_, refl, sym, _∙_}
 use native.Mathlib.Omega.{arith}
 use lib.ListN.{length, take}
 use Rattle.book.specs.Lists.{any}
-use Rattle.tables_model.specs.Visits.{actives, isListed, isOf, vacant}
+use Rattle.tables_model.specs.Visits.{isListed, isOf}
+use Rattle.tables_model.specs.Layout.{actives}
+use Rattle.tables_model.specs.Meaning.{vacant}
 use Rattle.tables.proofs.Loops.{left, left-next, left-end}
 use Rattle.tables.proofs.Places.{actives-length}
 use Rattle.tables.proofs.visits.is_listed.Statement.{statement}

@@ -4,7 +4,8 @@ use mathlib.Core.Path.{_≡_, refl, sym, _∙_}
 use native.Mathlib.Omega.{arith}
 use lib.Seq.{length-take-le}
 use lib.ListN.{length}
-use Rattle.tables_model.specs.Visits.{actives, vacant}
+use Rattle.tables_model.specs.Layout.{actives}
+use Rattle.tables_model.specs.Meaning.{vacant}
 use Rattle.tables.proofs.Loops.{filled, filled-next, filled-end}
 use Rattle.tables.proofs.Places.{actives-length}
 use Rattle.tables.proofs.visits.vacate_from.Statement.{statement}

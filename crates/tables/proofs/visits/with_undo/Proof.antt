@@ -3,7 +3,9 @@ use Prim.Native.Nat.{_-_, _≤_, _<_}
 use mathlib.Core.Path.{_≡_, refl, _∙_}
 use native.Mathlib.Omega.{arith}
 use lib.ListN.{length}
-use Rattle.tables_model.specs.Visits.{actives, withUndo, marked, vacant}
+use Rattle.tables_model.specs.Visits.{withUndo, marked}
+use Rattle.tables_model.specs.Layout.{actives}
+use Rattle.tables_model.specs.Meaning.{vacant}
 use Rattle.tables.proofs.Loops.{mapped, mapped-next}
 use Rattle.tables.proofs.Places.{actives-length}
 use Rattle.tables.proofs.visits.with_undo.Statement.{statement}

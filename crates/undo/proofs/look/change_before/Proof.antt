@@ -4,7 +4,7 @@ use Prim.Native.Nat.{_+_, _-_, _*_, _≤_, _<_}
 use mathlib.Core.Path.{_≡_, sym, _∙_}
 use mathlib.Core.Logic.{⊎-elim}
 use native.Mathlib.Omega.{arith}
-use Rattle.tables_model.specs.Meaning.{previous}
+use Rattle.tables_model.specs.Lookup.{previous}
 use Rattle.undo.specs.Looking.{rowOfPart}
 use Rattle.undo.proofs.LookUps.{part-row, stops, finds, passes, begins-behind, stops-before}
 use Rattle.undo.proofs.look.change_before.Statement.{statement}

@@ -1,0 +1,183 @@
+-- Calls at the limits of document 01: the last call that is accepted, and the number that the next one is refused by. All hold by computing, those over
+-- a full log from what its rows come to. Cell 224 of a change, the 17th begin and one visit's 2,048th change are among the marked cases (Cases).
+use Prim.Native.Nat.{ℕ, _*_}
+use mathlib.Core.Path.{_≡_, refl}
+use mathlib.Core.Bool.{true}
+use mathlib.Core.List.{List, [], _∷_, _++_, map, append-nil}
+use lib.ListN.{replicate}
+use lib.IntN.{pos}
+use Rattle.book.specs.Lists.{tabulate, join}
+use Rattle.book.specs.Rows.{Row}
+use Rattle.book.specs.Rules.{allowedLog}
+use Rattle.book.specs.Calls.{Call}
+use Rattle.book.specs.Power.{Fuse, left, formatted}
+use Rattle.book.specs.Book.{refused, done, refusedBy}
+use Rattle.book.specs.Events.{Event, opens, calls, happens, bookAfter}
+use Rattle.book.specs.Cases.{session, Gives, then}
+use Rattle.book.specs.Cells.{zeros}
+use Rattle.book.proofs.WorkedExamples.{computes, committedVisits, scopes, asked, refusalAfter}
+use Rattle.book.proofs.FullLogs.{rows4091, rows4092, rows4093, comes-4091, comes-4092, comes-4093}
+
+-- ── The tail ──────────────────────────────────────────────────────────────────────────────────────────────────────────
+
+-- n visits that begin and abort: 2 n rows, which wait
+abbrev shortVisits : ℕ → List Call
+shortVisits n = join (tabulate n 1 (λ v. Call.begin ∷ Call.abort v ∷ []))
+
+abbrev shortRows : ℕ → List Row
+shortRows n = join (tabulate n 1 (λ v. Row.begin v ∷ Row.abort v ∷ []))
+
+-- 64 rows, in a session with this fuse
+abbrev rows64 : Fuse → List Event
+rows64 f = opens true f ∷ map (calls true) (shortVisits 32)
+
+-- 01: "a tail of at most 64 rows not yet stored". No write lands, and each of the calls is done.
+pub tail-takes-64 : Gives zeros (rows64 (left 0)) (done (pos 0) ∷ join (tabulate 32 1 (λ v. done (pos v) ∷ done (pos (2 * v)) ∷ [])))
+unfolding computes
+tail-takes-64 = refl
+
+-- 01: "if the tail holds 64 rows it is forced first". The first write fails, so nothing is stored.
+pub row-65-is-refused : happens zeros (bookAfter zeros formatted (rows64 (left 0))) (calls true Call.begin) ≡ refused 5 formatted
+unfolding computes
+row-65-is-refused = refl
+
+-- The 64 writes land, and the row waits.
+pub row-65-waits : bookAfter zeros formatted (rows64 (left 64) ++ (calls true Call.begin ∷ [])) ≡
+    record { stored = shortRows 32; waiting = Row.begin 33 ∷ []; fuse = left 0; isOpen = true }
+unfolding computes
+row-65-waits = refl
+
+-- ── Visits ────────────────────────────────────────────────────────────────────────────────────────────────────────────
+
+-- 01: "7: 16 active"
+pub begin-16 : then (session (replicate 15 Call.begin)) Call.begin ≡ done (pos 16)
+unfolding computes
+begin-16 = refl
+
+-- 01: "6: 255 visits used"
+pub begin-255 : asked (committedVisits 254) Call.begin ≡ done (pos 255)
+unfolding computes
+begin-255 = refl
+
+pub begin-256 : asked (committedVisits 255) Call.begin ≡ refusedBy 6
+unfolding computes
+begin-256 = refl
+
+-- visit 1 has committed, visit 3 was aborted, and visit 2 is active; each of 1 and 2 has changed cell 0
+abbrev someEnded : List Row
+someEnded =
+    Row.begin 1 ∷ Row.change 1 0 (pos 1) ∷ Row.commit 1 ∷ Row.begin 2 ∷ Row.change 2 0 (pos 1) ∷ Row.begin 3 ∷ Row.abort 3 ∷ []
+
+-- 01: "9: visit not active", and of a hand-over "giver, then receiver"
+pub ended-by-commit :
+    map (refusalAfter someEnded) (Call.change 1 0 (pos 1) ∷ Call.handOver 1 2 0 ∷ Call.handOver 2 1 0 ∷ Call.commit 1 ∷ Call.abort 1 ∷ []) ≡ replicate 5 9
+unfolding computes
+ended-by-commit = refl
+
+pub ended-by-abort :
+    map (refusalAfter someEnded) (Call.change 3 0 (pos 1) ∷ Call.handOver 3 2 0 ∷ Call.handOver 2 3 0 ∷ Call.commit 3 ∷ Call.abort 3 ∷ []) ≡ replicate 5 9
+unfolding computes
+ended-by-abort = refl
+
+-- ── Scopes ────────────────────────────────────────────────────────────────────────────────────────────────────────────
+
+-- 01: "11: scopes used up", of 64
+pub scope-64 : asked (scopes 63) (Call.change 1 63 (pos 1)) ≡ done (pos 66)
+unfolding computes
+scope-64 = refl
+
+pub scope-65 : asked (scopes 64) (Call.change 1 64 (pos 1)) ≡ refusedBy 11
+unfolding computes
+scope-65 = refl
+
+-- 01: "starts a new scope, unless v changed c before and has not handed c over since"
+pub scope-grows : asked (scopes 64) (Call.change 1 5 (pos 1)) ≡ done (pos 67)
+unfolding computes
+scope-grows = refl
+
+abbrev handedBack : List Row
+handedBack = scopes 64 ++ (Row.handOver 1 2 5 ∷ Row.handOver 2 1 5 ∷ [])
+
+pub scope-handed-back : asked handedBack (Call.change 1 5 (pos 1)) ≡ refusedBy 11
+unfolding computes
+scope-handed-back = refl
+
+-- 01: "a scope is in use while its changes' holder is active"
+pub scopes-of-ended : asked (scopes 64 ++ (Row.commit 1 ∷ [])) (Call.change 2 0 (pos 1)) ≡ done (pos 68)
+unfolding computes
+scopes-of-ended = refl
+
+-- ── Cells and pages ───────────────────────────────────────────────────────────────────────────────────────────────────
+
+-- two visits, and a change of the last cell
+abbrev lastCell : List Row
+lastCell = Row.begin 1 ∷ Row.begin 2 ∷ Row.change 1 223 (pos 70) ∷ []
+
+-- 01: "10: cell above 223"
+pub hand-over-of-223 : asked lastCell (Call.handOver 1 2 223) ≡ done (pos 4)
+unfolding computes
+hand-over-of-223 = refl
+
+pub hand-over-of-224 : asked lastCell (Call.handOver 1 2 224) ≡ refusedBy 10
+unfolding computes
+hand-over-of-224 = refl
+
+pub read-of-223 : asked lastCell (Call.read 223) ≡ done (pos 70)
+unfolding computes
+read-of-223 = refl
+
+pub read-of-224 : asked lastCell (Call.read 224) ≡ refusedBy 10
+unfolding computes
+read-of-224 = refl
+
+-- 01: "14: page above 31"
+pub flush-of-31 : asked [] (Call.flush 31) ≡ done (pos 0)
+unfolding computes
+flush-of-31 = refl
+
+pub flush-of-32 : asked [] (Call.flush 32) ≡ refusedBy 14
+unfolding computes
+flush-of-32 = refl
+
+-- ── Free rows ─────────────────────────────────────────────────────────────────────────────────────────────────────────
+
+-- 01: "8: free below need". After 4,091 rows 5 are free, and the reserve is 3: begin and change need 2 more, a hand-over 1.
+pub begin-with-5-free : refusalAfter rows4091 Call.begin ≡ 0
+unfolding computes
+begin-with-5-free = rw (append-nil rows4091, comes-4091) refl
+
+pub begin-with-4-free : refusalAfter rows4092 Call.begin ≡ 8
+unfolding computes
+begin-with-4-free = rw (append-nil rows4092, comes-4092) refl
+
+pub change-with-5-free : refusalAfter rows4091 (Call.change 1 0 (pos 1)) ≡ 0
+unfolding computes
+change-with-5-free = rw (append-nil rows4091, comes-4091) refl
+
+pub change-with-4-free : refusalAfter rows4092 (Call.change 1 0 (pos 1)) ≡ 8
+unfolding computes
+change-with-4-free = rw (append-nil rows4092, comes-4092) refl
+
+pub hand-over-with-4-free : refusalAfter rows4092 (Call.handOver 2 1 0) ≡ 0
+unfolding computes
+hand-over-with-4-free = rw (append-nil rows4092, comes-4092) refl
+
+pub hand-over-with-3-free : refusalAfter rows4093 (Call.handOver 1 2 0) ≡ 8
+unfolding computes
+hand-over-with-3-free = rw (append-nil rows4093, comes-4093) refl
+
+-- 01: "they make commit, abort and opening never lack space"
+pub commit-with-3-free : refusalAfter rows4093 (Call.commit 1) ≡ 0
+unfolding computes
+commit-with-3-free = rw (append-nil rows4093, comes-4093) refl
+
+pub abort-with-3-free : refusalAfter rows4093 (Call.abort 1) ≡ 0
+unfolding computes
+abort-with-3-free = rw (append-nil rows4093, comes-4093) refl
+
+-- ── The logs ──────────────────────────────────────────────────────────────────────────────────────────────────────────
+
+-- those above are allowed, and so are the full ones (FullLogs)
+pub logs-allowed : map allowedLog (committedVisits 255 ∷ someEnded ∷ handedBack ∷ lastCell ∷ []) ≡ replicate 4 true
+unfolding computes
+logs-allowed = refl

@@ -1,0 +1,62 @@
+-- What the book makes of a call, with the refusals by 5 told apart: of a closed book, and of a power failure.
+use Prim.Native.Nat.{ℕ, zero, suc}
+use native.Mathlib.Omega.{arith}
+use mathlib.Core.Path.{_≡_, refl, ap, sym, _∙_}
+use mathlib.Core.Bool.{Bool, true, false, cond, not}
+use mathlib.Core.Logic.{_≢_}
+use lib.IntN.{ℤ, pos}
+use Rattle.book.specs.Calls.{Call, ending}
+use Rattle.book.specs.Power.{Book}
+use Rattle.book.specs.Book.{answer, refusal, through, value, Outcome, refused, ended, accepted, decide, call}
+use Rattle.state.specs.World.{World, worldOf, Represents}
+use Rattle.state.specs.Contracts.{answered, chartsAfter, byBook}
+use Rattle.state.proofs.Agree.{charts-refused}
+use Rattle.embed_model.proofs.Fives.{refusal-not-five}
+
+-- done with the book open after it, or cut with the book closed
+pub data Ends (o : Outcome) : Type 0 where
+  done : o .answer .number ≡ 0 → o .book .isOpen ≡ true → Ends o
+  cut : o .answer .number ≡ 5 → o .book .isOpen ≡ false → Ends o
+
+pub ends : (v : ℤ) (b : Book) → Ends (ended v b)
+ends v b = go (b .isOpen) refl
+  where
+    go : (t : Bool) → b .isOpen ≡ t → Ends (cond t (record { answer = answer 0 v; book = b }) (refused 5 b))
+    go true e = done refl e
+    go false e = cut refl e
+
+-- it answers 0 with the book open, 5 with the book closed, and no other number
+pub ends-only : (o : Outcome) → Ends o → o .answer .number ≢ 0 → o .answer .number ≢ 5 → ⊥
+ends-only o (done e p) z f = z e
+ends-only o (cut e p) z f = f e
+
+pub ends-open : (o : Outcome) → Ends o → o .answer .number ≡ 0 → o .book .isOpen ≡ true
+ends-open o (done e p) z = p
+ends-open o (cut e p) z = absurd (omega arith)
+
+pub ends-closed : (o : Outcome) → Ends o → o .answer .number ≢ 0 → o .book .isOpen ≡ false
+ends-closed o (done e p) z = absurd (z e)
+ends-closed o (cut e p) z = p
+
+-- what the book makes of a call
+pub data Decides (b : Book) (o : Outcome) : Type 0 where
+  shut : b .isOpen ≡ false → o ≡ refused 5 b → Decides b o
+  refuses : (n : ℕ) → b .isOpen ≡ true → suc n ≢ 5 → o ≡ refused (suc n) b → Decides b o
+  accepts : b .isOpen ≡ true → Ends o → Decides b o
+
+pub decides : (cells : ℕ → ℤ) (b : Book) (k : Call) → Decides b (call cells b true k)
+unfolding call accepted
+decides cells b k = go (b .isOpen) refl (refusal b k) (refusal-not-five b k)
+  where
+    go : (t : Bool) → b .isOpen ≡ t → (n : ℕ) → n ≢ 5 → Decides b (decide cells b k (cond (not t) 5 n))
+    go false o n h = shut o refl
+    go true o zero h = accepts o (ends (value cells b k) (through b k))
+    go true o (suc n) h = refuses n o h refl
+
+-- a call that the book refuses leaves the values as they were
+pub refused-keeps : (cells : ℕ → ℤ) (b : Book) (k : Call) (w : World) (n : ℕ) → Represents cells b w → call cells b true k ≡ refused (suc n) b
+    → byBook cells b k w ≡ answered (suc n) (pos 0) w
+unfolding byBook
+refused-keeps cells b k w n r e =
+    ap (λ (o : Outcome). record { answer = o .answer; world = worldOf cells (o .book) (chartsAfter cells b (ending k) (o .answer .number) (w .charts)) }) e ∙
+    ap (answered (suc n) (pos 0)) (ap (worldOf cells b) (charts-refused cells b k n (w .charts)) ∙ sym (r .is))

@@ -1,3 +1,0 @@
--- Checked examples, by computing.
-pub mod Limits
-pub mod Openings

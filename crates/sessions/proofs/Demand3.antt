@@ -1,0 +1,157 @@
+-- Demand 3 (document 00) of every list of sessions, from the contracts of format, open and the other calls.
+use Prim.Native.Nat.{ℕ, _<_}
+use mathlib.Core.Path.{_≡_, ap, ap₂, sym, _∙_, subst}
+use mathlib.Core.Bool.{Bool, true, false}
+use mathlib.Core.Logic.{_↔_}
+use mathlib.Core.List.{List, [], _∷_, _++_, map, append-assoc}
+use lib.ListN.{length}
+use lib.IntN.{ℤ}
+use Rattle.book.specs.Lists.{StartsWith, any, foldl}
+use Rattle.book.specs.Limits.{cellLimit}
+use Rattle.book.specs.Pages.{cellOf}
+use Rattle.book.specs.Ledger.{Change, ledger}
+use Rattle.book.specs.Cells.{isKept, keptSum}
+use Rattle.book.specs.Calls.{Call}
+use Rattle.book.specs.Power.{Book, PowerHolds, formatted}
+use Rattle.book.specs.Book.{Answer, answer, closing, call, opening}
+use Rattle.book.specs.Events.{happens, bookAfter}
+use Rattle.book.specs.Logs.{Logged, undoes, Sound}
+use Rattle.book.proofs.Lists.{foldl-append}
+use Rattle.book.proofs.Fate.{once}
+use Rattle.book.proofs.Sound.{stored-allowed, sound-formatted}
+use Rattle.book.proofs.Claims.{grows-events}
+use Rattle.book.proofs.Openings.{holds-ready}
+use Rattle.book.proofs.Pages.{Bounded}
+use Rattle.state.specs.World.{World, rightLengths}
+use Rattle.state.specs.Contracts.{cellsOf}
+use Rattle.state.proofs.FormattedStores.{Formatted, new-charts, newCharts, formatted-store}
+use Rattle.sessions.specs.Host.{Opening, Called, Step, opened, called, steps, eventOf, worldAfter, worldAfterAll, callsFollow}
+use Rattle.sessions.specs.Demand3.{bookOf, logOf, Lasts, Wrote, Holds, Demand3}
+use Rattle.sessions.proofs.Held.{Held, held-world, ByBook}
+use Rattle.sessions.proofs.Along.{typed, book-append, At, first, reach, answered}
+use Rattle.sessions.proofs.Commits.{commit-stays}
+use Rattle.sessions.proofs.ReadyOpenings.{ready-lengths, copy-sum, read-sum, undone-or-kept, wrote}
+
+module _ (cells : ℕ → ℤ) (small : Bounded 1000000 cells) (own : World) (ss : List Step) (start : At cells formatted own true ss) where
+  -- what holds after the steps `xs`, if `ys` are the rest
+  there : (xs ys : List Step) → ss ≡ xs ++ ys → At cells (bookOf cells xs) (worldAfterAll own xs) (foldl callsFollow true xs) ys
+  there xs ys e = reach cells small xs ys formatted own true (subst (At cells formatted own true) e start)
+
+  book-after : (xs : List Step) (s : Step) → bookOf cells (xs ++ (s ∷ [])) ≡ happens cells (bookOf cells xs) (eventOf s) .book
+  book-after xs s = book-append cells formatted xs (s ∷ [])
+
+  -- ── The log ─────────────────────────────────────────────────────────────────────────────────────────────────────────
+
+  log-grows : (xs ys zs : List Step) → ss ≡ xs ++ (ys ++ zs) → StartsWith (logOf cells xs) (logOf cells (xs ++ ys))
+  log-grows xs ys zs e =
+      let a = there xs (ys ++ zs) e in
+      subst (λ (b : Book). StartsWith (logOf cells xs) (b .stored)) (sym (book-append cells formatted xs ys))
+      (grows-events cells (bookOf cells xs) (map eventOf ys) (a .held .sound) (typed _ _ ys zs (a .host)))
+
+  -- ── A ready opening ─────────────────────────────────────────────────────────────────────────────────────────────────
+
+  module _ (xs ys : List Step) (o : Opening) (e : ss ≡ xs ++ (opened o ∷ ys)) where
+    by-book : ByBook cells (opening (bookOf cells xs) (rightLengths (o .given)) (o .fuse)) (o .result .answer) (worldAfter (worldAfterAll own xs) (opened o))
+        (callsFollow (foldl callsFollow true xs) (opened o))
+    by-book = first cells small (bookOf cells xs) (worldAfterAll own xs) _ (opened o) ys (there xs (opened o ∷ ys) e)
+
+    ends-ready : rightLengths (o .given) ≡ true → PowerHolds (o .fuse) (length (closing (ledger (logOf cells xs)))) → o .result .answer .number ≡ 0
+    ends-ready len h =
+        ap (λ (a : Answer). a .number) (by-book .answers) ∙ ap (λ (t : Bool). opening (bookOf cells xs) t (o .fuse) .answer .number) len ∙
+        holds-ready (bookOf cells xs) (o .fuse) h
+
+    module _ (zero′ : o .result .answer .number ≡ 0) where
+      lengths : rightLengths (o .given) ≡ true
+      lengths = ready-lengths (bookOf cells xs) _ (o .fuse) (ap (λ (a : Answer). a .number) (sym (by-book .answers)) ∙ zero′)
+
+      at-lengths : ByBook cells (opening (bookOf cells xs) true (o .fuse)) (o .result .answer) (worldAfter (worldAfterAll own xs) (opened o))
+          (callsFollow (foldl callsFollow true xs) (opened o))
+      at-lengths = subst (λ (t : Bool). ByBook cells (opening (bookOf cells xs) t (o .fuse)) (o .result .answer) (worldAfter (worldAfterAll own xs) (opened o))
+          (callsFollow (foldl callsFollow true xs) (opened o))) lengths by-book
+
+      done : opening (bookOf cells xs) true (o .fuse) .answer .number ≡ 0
+      done = ap (λ (a : Answer). a .number) (sym (at-lengths .answers)) ∙ zero′
+
+      sound : Sound (bookOf cells xs)
+      sound = there xs (opened o ∷ ys) e .held .sound
+
+      is : bookOf cells (xs ++ (opened o ∷ [])) ≡ opening (bookOf cells xs) true (o .fuse) .book
+      is = book-after xs (opened o) ∙ ap (λ (t : Bool). opening (bookOf cells xs) t (o .fuse) .book) lengths
+
+      copy-sums : (c : ℕ) → c < cellLimit → cellOf (worldAfterAll own (xs ++ (opened o ∷ [])) .copy) c ≡ keptSum cells (logOf cells (xs ++ (opened o ∷ []))) c
+      copy-sums c h =
+          let follows : callsFollow (foldl callsFollow true xs) (opened o) ≡ true = rw zero′ in
+          ap (λ (w : World). cellOf (w .copy) c) (foldl-append worldAfter own xs (opened o ∷ [])) ∙
+          copy-sum (bookOf cells xs) (o .fuse) sound done cells small (worldAfter (worldAfterAll own xs) (opened o)) (at-lengths .held .is follows) c h ∙
+          ap (λ (x : Book). keptSum cells (x .stored) c) (sym is)
+
+      read-sums : (c : ℕ) → c < cellLimit → call cells (bookOf cells (xs ++ (opened o ∷ []))) true (Call.read c) .answer ≡
+          answer 0 (keptSum cells (logOf cells (xs ++ (opened o ∷ []))) c)
+      read-sums c h = subst (λ (x : Book). call cells x true (Call.read c) .answer ≡ answer 0 (keptSum cells (x .stored) c)) (sym is)
+          (read-sum (bookOf cells xs) (o .fuse) sound done cells c h)
+
+      its-undone : (x : Change) → Logged (logOf cells (xs ++ (opened o ∷ []))) x →
+          (any (undoes (x .row)) (logOf cells (xs ++ (opened o ∷ []))) ≡ true) ↔ (isKept (ledger (logOf cells (xs ++ (opened o ∷ [])))) x ≡ false)
+      its-undone x = subst (λ (l : Book). Logged (l .stored) x → (any (undoes (x .row)) (l .stored) ≡ true) ↔ (isKept (ledger (l .stored)) x ≡ false)) (sym is)
+          (undone-or-kept (bookOf cells xs) (o .fuse) sound done x)
+
+      its-rows : Wrote (logOf cells xs) (logOf cells (xs ++ (opened o ∷ []))) (o .result .answer)
+      its-rows = subst (λ (x : Book). Wrote (logOf cells xs) (x .stored) (o .result .answer)) (sym is)
+          (subst (Wrote (logOf cells xs) (opening (bookOf cells xs) true (o .fuse) .book .stored)) (sym (at-lengths .answers))
+          (wrote (bookOf cells xs) (o .fuse) sound done))
+
+  -- a read that follows at once
+  reads : (xs ys : List Step) (o : Opening) (r : Called) (c : ℕ) → ss ≡ xs ++ (opened o ∷ called r ∷ ys) → o .result .answer .number ≡ 0
+      → rightLengths (r .given) ≡ true → r .call ≡ Call.read c → c < cellLimit → r .result .answer ≡ answer 0 (keptSum cells (logOf cells (xs ++ (opened o ∷ []))) c)
+  reads xs ys o r c e zero′ len k h =
+      let zs = xs ++ (opened o ∷ []) in
+      let a = there zs (called r ∷ ys) (e ∙ sym (append-assoc xs (opened o ∷ []) (called r ∷ ys))) in
+      first cells small (bookOf cells zs) (worldAfterAll own zs) _ (called r) ys a .answers ∙
+      ap₂ (λ (t : Bool) (x : Call). call cells (bookOf cells zs) t x .answer) len k ∙ read-sums xs (called r ∷ ys) o e zero′ c h
+
+  -- ── A commit ────────────────────────────────────────────────────────────────────────────────────────────────────────
+
+  lasts : (xs ys zs : List Step) (c : Called) (v : ℕ) → ss ≡ xs ++ (called c ∷ (ys ++ zs)) → c .call ≡ Call.commit v → c .result .answer .number ≡ 0
+      → Lasts (bookOf cells xs) v (c .result .answer) (logOf cells (xs ++ (called c ∷ ys)))
+  lasts xs ys zs c v e k zero′ =
+      let b = bookOf cells xs in
+      let len = rightLengths (c .given) in
+      let a = there xs (called c ∷ (ys ++ zs)) e in
+      let answers : c .result .answer ≡ call cells b len (Call.commit v) .answer = first cells small b (worldAfterAll own xs) _ (called c) (ys ++ zs) a .answers ∙
+      ap (λ (x : Call). call cells b len x .answer) k in
+      let is : bookOf cells (xs ++ (called c ∷ ys)) ≡ bookAfter cells (call cells b len (Call.commit v) .book) (map eventOf ys) =
+      book-append cells formatted xs (called c ∷ ys) ∙ ap (λ (x : Call). bookAfter cells (call cells b len x .book) (map eventOf ys)) k in
+      let done : call cells b len (Call.commit v) .answer .number ≡ 0 = ap (λ (x : Answer). x .number) (sym answers) ∙ zero′ in
+      subst (λ (x : Book). Lasts (bookOf cells xs) v (c .result .answer) (x .stored)) (sym is)
+      (subst (λ (x : Answer). Lasts (bookOf cells xs) v x (bookAfter cells (call cells b len (Call.commit v) .book) (map eventOf ys) .stored)) (sym answers)
+      (commit-stays cells b len v (a .held .sound) done (map eventOf ys) (typed _ _ ys zs (a .host .1))))
+
+  -- ── All of it ───────────────────────────────────────────────────────────────────────────────────────────────────────
+
+  holds : Holds cells own ss
+  holds = record {
+    answers = answered cells small ss formatted own true start;
+    log = λ xs ys e. there xs ys e .held .log;
+    stands = log-grows;
+    sums = copy-sums;
+    reads = reads;
+    commits = lasts;
+    undone = its-undone;
+    once = λ xs ys e. once (logOf cells xs) (stored-allowed (bookOf cells xs) (there xs ys e .held .sound));
+    ready = ends-ready;
+    wrote = its-rows;
+  }
+
+-- ── Demand 3 ──────────────────────────────────────────────────────────────────────────────────────────────────────────
+
+-- what an accepted format left
+pub held-formatted : (values : List ℤ) (own : World) → Formatted values own → Held (cellsOf values) formatted own true
+held-formatted values own f =
+    let cells = cellsOf values in
+    subst (λ (w : World). Held cells formatted w true) (sym (f .is)) (held-world cells formatted (newCharts cells) true sound-formatted (new-charts cells))
+
+pub demand-3 : Demand3
+unfolding Demand3
+demand-3 values given x post done ss host contracts =
+    let f = formatted-store values given x post done in
+    holds (cellsOf values) (f .small) (x .world) (steps ss) (record { held = held-formatted values (x .world) f; host = host; contracts = contracts })

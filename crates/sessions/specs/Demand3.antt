@@ -1,0 +1,86 @@
+-- Demand 3 (document 00) as one statement over the whole list of sessions, a field for each of its sentences.
+use Prim.Native.Nat.{ℕ, _-_, _≤_, _<_}
+use mathlib.Core.Bool.{true, false}
+use mathlib.Core.Path.{_≡_}
+use mathlib.Core.Logic.{_↔_}
+use mathlib.Core.List.{List, [], _∷_, _++_, map}
+use lib.ListN.{length, drop}
+use lib.IntN.{ℤ, pos}
+use Rattle.book.specs.Lists.{StartsWith, any, keep}
+use Rattle.book.specs.Limits.{cellLimit}
+use Rattle.book.specs.Rows.{Row, isUndo}
+use Rattle.book.specs.Ledger.{Change, ledger}
+use Rattle.book.specs.Rules.{openChanges}
+use Rattle.book.specs.Cells.{isKept, keptSum}
+use Rattle.book.specs.Calls.{Call}
+use Rattle.book.specs.Power.{Book, PowerHolds, rowsOf, formatted}
+use Rattle.book.specs.Book.{Answer, answer, closing}
+use Rattle.book.specs.Events.{answers, bookAfter}
+use Rattle.book.specs.LogBytes.{logBytes}
+use Rattle.book.specs.Pages.{cellOf, rowAt}
+use Rattle.book.specs.Logs.{Logged, InSum, undoes, Once}
+use Rattle.state.specs.World.{World, rightLengths}
+use Rattle.state.specs.Contracts.{Answered, FormatPost, cellsOf}
+use Rattle.sessions.specs.Host.{Opening, Called, Session, Step, opened, called, steps, answerOf, eventOf, worldAfterAll, Host, Contracts}
+
+-- the book after these steps, and its stored rows
+abbrev pub bookOf : (ℕ → ℤ) → List Step → Book
+bookOf cells ss = bookAfter cells formatted (map eventOf ss)
+
+abbrev pub logOf : (ℕ → ℤ) → List Step → List Row
+logOf cells ss = bookOf cells ss .stored
+
+-- row n of the log is this row
+pub record Stands (n : ℕ) (row : Row) (rs : List Row) : Type 0 where
+  pub from : 1 ≤ n
+  pub to : n ≤ length rs
+  pub is : rowAt rs n ≡ row
+
+-- 00: "Each commit answered done has its row in the log from then on, and every change its visit then held is in every later sum." `before` is the book
+-- before the commit, `later` the stored log after it or after a later step.
+pub record Lasts (before : Book) (visit : ℕ) (answer : Answer) (later : List Row) : Type 0 where
+  pub number : ℕ
+  pub value : answer .value ≡ pos number
+  pub row : Stands number (Row.commit visit) later
+  pub sum : (x : Change) → Logged (rowsOf before) x → x .holder ≡ visit → InSum later x
+
+-- the rows that a ready opening wrote: as many as it answers, an undo row for each change that was open
+pub record Wrote (old new : List Row) (answer : Answer) : Type 0 where
+  pub rows : answer .value ≡ pos (length new - length old)
+  pub undos : length (keep isUndo (drop (length old) new)) ≡ length (openChanges (ledger old))
+
+-- For the store formatted with `cells` that holds `own` before the steps. `xs` are always the steps up to some point.
+pub record Holds (cells : ℕ → ℤ) (own : World) (ss : List Step) : Type 0 where
+  -- "each call's refusal number is the one that 01's book gives it": the number, and the value
+  pub answers : map answerOf ss ≡ answers cells formatted (map eventOf ss)
+  -- "and after it the stored log is, row for row, the book's"
+  pub log : (xs ys : List Step) → ss ≡ xs ++ ys → worldAfterAll own xs .log ≡ logBytes (logOf cells xs)
+  -- "and stands unchanged at the start of every later one"
+  pub stands : (xs ys zs : List Step) → ss ≡ xs ++ (ys ++ zs) → StartsWith (logOf cells xs) (logOf cells (xs ++ ys))
+  -- "After every opening that ends ready, each cell is the formatted value plus the sum of the logged changes whose last holder has a commit row."
+  -- 01: "After a ready opening a cell is the copy's, and a read that follows at once gives it."
+  pub sums : (xs ys : List Step) (o : Opening) → ss ≡ xs ++ (opened o ∷ ys) → o .result .answer .number ≡ 0 → (c : ℕ) → c < cellLimit →
+      cellOf (worldAfterAll own (xs ++ (opened o ∷ [])) .copy) c ≡ keptSum cells (logOf cells (xs ++ (opened o ∷ []))) c
+  pub reads : (xs ys : List Step) (o : Opening) (r : Called) (c : ℕ) → ss ≡ xs ++ (opened o ∷ called r ∷ ys) → o .result .answer .number ≡ 0 →
+      rightLengths (r .given) ≡ true → r .call ≡ Call.read c → c < cellLimit → r .result .answer ≡ answer 0 (keptSum cells (logOf cells (xs ++ (opened o ∷ []))) c)
+  -- "Each commit answered done has its row in the log from then on, and every change its visit then held is in every later sum."
+  pub commits : (xs ys zs : List Step) (c : Called) (v : ℕ) → ss ≡ xs ++ (called c ∷ (ys ++ zs)) → c .call ≡ Call.commit v → c .result .answer .number ≡ 0 →
+      Lasts (bookOf cells xs) v (c .result .answer) (logOf cells (xs ++ (called c ∷ ys)))
+  -- "After a ready opening a logged change has an undo row exactly when it isn't in the sum."
+  pub undone : (xs ys : List Step) (o : Opening) → ss ≡ xs ++ (opened o ∷ ys) → o .result .answer .number ≡ 0 →
+      (x : Change) → Logged (logOf cells (xs ++ (opened o ∷ []))) x →
+      (any (undoes (x .row)) (logOf cells (xs ++ (opened o ∷ []))) ≡ true) ↔ (isKept (ledger (logOf cells (xs ++ (opened o ∷ [])))) x ≡ false)
+  -- "No log has two undo rows for a change or two abort rows for a visit."
+  pub once : (xs ys : List Step) → ss ≡ xs ++ ys → Once (logOf cells xs)
+  -- "An opening whose lent buffers have 01's lengths and whose power holds ends ready."
+  pub ready : (xs ys : List Step) (o : Opening) → ss ≡ xs ++ (opened o ∷ ys) → rightLengths (o .given) ≡ true →
+      PowerHolds (o .fuse) (length (closing (ledger (logOf cells xs)))) → o .result .answer .number ≡ 0
+  -- 01: an opening "returns the rows it wrote", and an undo count that isn't the number of undo rows is shut out
+  pub wrote : (xs ys : List Step) (o : Opening) → ss ≡ xs ++ (opened o ∷ ys) → o .result .answer .number ≡ 0 →
+      Wrote (logOf cells xs) (logOf cells (xs ++ (opened o ∷ []))) (o .result .answer)
+
+-- After an accepted format, any list of sessions of a host that keeps to 01, whatever functions meet the contracts.
+unfoldable pub Demand3 : Type 0
+Demand3 =
+    (values : List ℤ) (given : World) (format : Answered) → FormatPost values given format → format .answer .number ≡ 0 →
+    (ss : List Session) → Host (format .world) true (steps ss) → Contracts (steps ss) → Holds (cellsOf values) (format .world) (steps ss)

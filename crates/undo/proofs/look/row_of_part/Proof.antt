@@ -1,0 +1,66 @@
+-- `undo::look::row_of_part` meets its contract. Assumes nothing.
+use Prim.Native.Nat.{_+_, _-_, _*_}
+use mathlib.Core.Path.{_≡_}
+use native.Mathlib.Omega.{arith}
+use Rattle.undo.proofs.LookUps.{part-row, before-part, behind-part}
+use borrow.Author.Needs.{needs}
+use Rattle.undo.proofs.look.row_of_part.Statement.{statement}
+use Rattle.undo.proofs.look.row_of_part.Tie as tie
+
+returns : tie.Need-returns
+returns c = let a = c .before .before .args in rw (before-part (a .b .now) (a .base) (a .rows) (a .n) (c .if1 .taken))
+
+add-if2 : tie.Need-add-if2
+add-if2 c = search needs
+
+returns-2 : tie.Need-returns-2
+returns-2 c = let a = c .before .before .before .args in rw (behind-part (a .b .now) (a .base) (a .rows) (a .n) (c .if2 .taken))
+
+sub-a : tie.Need-sub-a
+sub-a c = search needs
+
+sub-a-2 : tie.Need-sub-a-2
+sub-a-2 c = search needs
+
+mul-a : tie.Need-mul-a
+mul-a c = search needs
+
+add-e : tie.Need-add-e
+add-e c = search needs
+
+sub-row-in : tie.Need-sub-row-in
+sub-row-in c = search needs
+
+part-row-in-start : tie.Need-part-row-in-start
+part-row-in-start c = search needs
+
+part-row-in-end : tie.Need-part-row-in-end
+part-row-in-end c = search needs
+
+row-in-requires : tie.Need-row-in-requires
+row-in-requires c κs = search needs
+
+returns-3 : tie.Need-returns-3
+returns-3 c =
+    let s = c .before .before .before .before .before in
+    let a = s .args in
+    let k = a .n - a .base - 1 in
+    let e : 16 * k + 16 - 16 * k ≡ 16 = omega arith in
+    rw (c .row-in .ensures, part-row (a .b .now) (a .base) (a .rows) (a .n) (c .before .before .before .if1 .left) (c .before .before .if2 .left), e)
+
+pub row-of-part-spec : {M : Type 1} → statement M
+row-of-part-spec =
+    tie.close
+    (tie.spec
+    returns
+    add-if2
+    returns-2
+    sub-a
+    sub-a-2
+    mul-a
+    add-e
+    sub-row-in
+    part-row-in-start
+    part-row-in-end
+    row-in-requires
+    returns-3)

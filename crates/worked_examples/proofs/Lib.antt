@@ -1,0 +1,3 @@
+-- Worked examples over whole stores, by computing.
+pub mod FullLog
+pub mod Openings
