@@ -3,6 +3,7 @@
 //!     bench                    times, as ratios
 //!     bench --instructions     instructions, counted by callgrind
 //!     bench --ram              the RAM and the deepest stack of the proved store
+//!     bench --check            every workload once, nothing measured
 //!     bench --once WORKLOAD    one workload, nothing measured: what callgrind is given
 //!
 //! A difference in any answer or stored byte ends the program with exit status 1.
@@ -16,6 +17,16 @@ mod workloads;
 
 use std::process::ExitCode;
 
+/// The comparison alone, as a test.
+fn check() -> Result<(), String> {
+    let calls = run::check()?;
+    println!(
+        "bench: {} workloads, {calls} calls by each store, no difference",
+        workloads::WORKLOADS.len()
+    );
+    Ok(())
+}
+
 fn main() -> ExitCode {
     let words: Vec<String> = std::env::args().skip(1).collect();
     let words: Vec<&str> = words.iter().map(String::as_str).collect();
@@ -23,8 +34,9 @@ fn main() -> ExitCode {
         [] => times::report(),
         ["--instructions"] => instructions::report(),
         ["--ram"] => ram::report(),
+        ["--check"] => check(),
         ["--once", name] => instructions::once(name),
-        _ => Err("usage: bench [--instructions | --ram | --once WORKLOAD]".to_string()),
+        _ => Err("usage: bench [--instructions | --ram | --check | --once WORKLOAD]".to_string()),
     };
     match result {
         Ok(()) => ExitCode::SUCCESS,

@@ -1,9 +1,9 @@
 //! A workload run by both stores, and the comparison of what they did.
 
 use crate::stores::{Call, Charts, Efficient};
-use crate::workloads::Script;
+use crate::workloads::{Script, WORKLOADS};
 use compare::proved::Proved;
-use compare::store::{Answer, CELLS};
+use compare::store::Answer;
 
 /// Runs the workload by both stores. The two functions make the calls of a measured batch and add their
 /// answers. Any difference between the stores is an error, and so is a refusal that the workload does not
@@ -24,7 +24,18 @@ pub fn make_all<S: Charts>(store: &mut S, calls: &[Call], answers: &mut Vec<Answ
     answers.extend(calls.iter().map(|call| store.make_counted(*call)));
 }
 
-/// What a store answered, with every cell read at the end, and what it has stored.
+/// Runs every workload once by both stores, and measures nothing. Gives how many calls a store made.
+pub fn check() -> Result<usize, String> {
+    let mut calls = 0;
+    for (name, workload) in WORKLOADS {
+        let script = Script::of(workload);
+        run_both(name, &script, make_all, make_all)?;
+        calls += script.calls();
+    }
+    Ok(calls)
+}
+
+/// What a store answered, and what it has stored at the end.
 struct Outcome {
     answers: Vec<Answer>,
     log: Vec<u8>,
@@ -37,7 +48,7 @@ fn run<S: Charts>(
 ) -> Outcome {
     let mut store = S::new();
     // Written to before, so that no measured call waits for the system to give memory.
-    let mut answers = vec![Answer { number: 1, value: 1 }; script.calls() + CELLS];
+    let mut answers = vec![Answer { number: 1, value: 1 }; script.calls()];
     answers.clear();
     for batch in &script.batches {
         if batch.measured {
@@ -46,7 +57,6 @@ fn run<S: Charts>(
             answers.extend(batch.calls.iter().map(|call| store.make(*call)));
         }
     }
-    answers.extend((0..CELLS).map(|cell| store.make(Call::Read(cell as u8))));
     Outcome { answers, log: store.log().to_vec(), charts: store.charts().to_vec() }
 }
 
@@ -63,11 +73,11 @@ fn compare(script: &Script, proved: &Outcome, efficient: &Outcome) -> Result<(),
             }
         }
     }
-    if !answers.all(|(proved, efficient)| proved == efficient) {
-        return Err("the cells differ at the end".to_string());
+    if proved.log != efficient.log {
+        return Err("the stored logs differ at the end".to_string());
     }
-    if proved.log != efficient.log || proved.charts != efficient.charts {
-        return Err("the stored bytes differ at the end".to_string());
+    if proved.charts != efficient.charts {
+        return Err("the stored charts differ at the end".to_string());
     }
     Ok(())
 }

@@ -4,13 +4,15 @@ use compare::fast::{self, Fuse, Lent, Ram};
 use compare::proved::Proved;
 use compare::store::{Answer, Scope, CELLS, RIGHT};
 
-/// A call of a store.
+/// A call of a store, or a byte that the host writes to its memory.
 #[derive(Clone, Copy, Debug)]
 pub enum Call {
     /// A format with zeros.
     Format,
     /// An opening with no fuse.
     Open,
+    /// An opening with so many writes in its fuse.
+    OpenWith(u32),
     Begin,
     /// Visit, cell and grams.
     Change(u16, u8, i16),
@@ -21,6 +23,9 @@ pub enum Call {
     Force,
     Flush(u8),
     Read(u8),
+    /// A byte of the stored log, and one of the stored charts: where, and which.
+    WriteLog(u16, u8),
+    WriteCharts(u16, u8),
 }
 
 const ZEROS: [i32; CELLS] = [0; CELLS];
@@ -44,7 +49,7 @@ pub struct Efficient {
     scopes: Vec<Scope>,
 }
 
-impl Charts for Efficient {
+impl Efficient {
     fn new() -> Efficient {
         Efficient {
             ram: Ram::CLOSED,
@@ -54,74 +59,126 @@ impl Charts for Efficient {
             scopes: vec![Scope::default(); RIGHT.scopes],
         }
     }
+}
 
+/// A function of its own for each call, as `Proved` has them: each lends the buffers to the function of the
+/// store. `#[inline(never)]` gives callgrind a name to find it by.
+impl Efficient {
     #[inline(always)]
-    fn make(&mut self, call: Call) -> Answer {
+    fn lent(&mut self) -> (&mut Ram, Lent<'_>) {
         let Efficient { ram, log, charts, copy, scopes } = self;
-        let mut lent = Lent { log, charts, copy, scopes };
-        match call {
-            Call::Format => fast::format(ram, &mut lent, &ZEROS),
-            Call::Open => fast::open(ram, &mut lent, Fuse::Unlimited),
-            Call::Begin => fast::begin(ram, &mut lent),
-            Call::Change(visit, cell, amount) => fast::change(ram, &mut lent, visit, cell, amount),
-            Call::HandOver(giver, receiver, cell) => {
-                fast::hand_over(ram, &mut lent, giver, receiver, cell)
-            }
-            Call::Commit(visit) => fast::commit(ram, &mut lent, visit),
-            Call::Abort(visit) => fast::abort(ram, &mut lent, visit),
-            Call::Force => fast::force(ram, &mut lent),
-            Call::Flush(page) => fast::flush_page(ram, &mut lent, page),
-            Call::Read(cell) => fast::read(ram, &lent, cell),
-        }
+        (ram, Lent { log, charts, copy, scopes })
     }
 
     #[inline(never)]
-    #[export_name = "counted_efficient"]
-    fn make_counted(&mut self, call: Call) -> Answer {
-        self.make(call)
+    fn format(&mut self, cells: &[i32]) -> Answer {
+        let (ram, mut lent) = self.lent();
+        fast::format(ram, &mut lent, cells)
     }
 
-    fn log(&self) -> &[u8] {
-        &self.log
+    #[inline(never)]
+    fn open(&mut self, fuse: Option<u32>) -> Answer {
+        let (ram, mut lent) = self.lent();
+        fast::open(ram, &mut lent, fuse.map_or(Fuse::Unlimited, Fuse::Left))
     }
 
-    fn charts(&self) -> &[u8] {
-        &self.charts
+    #[inline(never)]
+    fn begin(&mut self) -> Answer {
+        let (ram, mut lent) = self.lent();
+        fast::begin(ram, &mut lent)
+    }
+
+    #[inline(never)]
+    fn change(&mut self, visit: u16, cell: u8, amount: i16) -> Answer {
+        let (ram, mut lent) = self.lent();
+        fast::change(ram, &mut lent, visit, cell, amount)
+    }
+
+    #[inline(never)]
+    fn hand_over(&mut self, giver: u16, receiver: u16, cell: u8) -> Answer {
+        let (ram, mut lent) = self.lent();
+        fast::hand_over(ram, &mut lent, giver, receiver, cell)
+    }
+
+    #[inline(never)]
+    fn commit(&mut self, visit: u16) -> Answer {
+        let (ram, mut lent) = self.lent();
+        fast::commit(ram, &mut lent, visit)
+    }
+
+    #[inline(never)]
+    fn abort(&mut self, visit: u16) -> Answer {
+        let (ram, mut lent) = self.lent();
+        fast::abort(ram, &mut lent, visit)
+    }
+
+    #[inline(never)]
+    fn force(&mut self) -> Answer {
+        let (ram, mut lent) = self.lent();
+        fast::force(ram, &mut lent)
+    }
+
+    #[inline(never)]
+    fn flush(&mut self, page: u8) -> Answer {
+        let (ram, mut lent) = self.lent();
+        fast::flush_page(ram, &mut lent, page)
+    }
+
+    #[inline(never)]
+    fn read(&mut self, cell: u8) -> Answer {
+        let (ram, lent) = self.lent();
+        fast::read(ram, &lent, cell)
     }
 }
 
-impl Charts for Proved {
-    fn new() -> Proved {
-        Proved::new()
-    }
+/// A store has its functions for the calls by the same names.
+macro_rules! charts {
+    ($store:ident, $counted:literal) => {
+        impl Charts for $store {
+            fn new() -> $store {
+                $store::new()
+            }
 
-    #[inline(always)]
-    fn make(&mut self, call: Call) -> Answer {
-        match call {
-            Call::Format => self.format(&ZEROS),
-            Call::Open => self.open(None),
-            Call::Begin => self.begin(),
-            Call::Change(visit, cell, amount) => self.change(visit, cell, amount),
-            Call::HandOver(giver, receiver, cell) => self.hand_over(giver, receiver, cell),
-            Call::Commit(visit) => self.commit(visit),
-            Call::Abort(visit) => self.abort(visit),
-            Call::Force => self.force(),
-            Call::Flush(page) => self.flush(page),
-            Call::Read(cell) => self.read(cell),
+            #[inline(always)]
+            fn make(&mut self, call: Call) -> Answer {
+                match call {
+                    Call::Format => self.format(&ZEROS),
+                    Call::Open => self.open(None),
+                    Call::OpenWith(left) => self.open(Some(left)),
+                    Call::Begin => self.begin(),
+                    Call::Change(visit, cell, amount) => self.change(visit, cell, amount),
+                    Call::HandOver(giver, receiver, cell) => self.hand_over(giver, receiver, cell),
+                    Call::Commit(visit) => self.commit(visit),
+                    Call::Abort(visit) => self.abort(visit),
+                    Call::Force => self.force(),
+                    Call::Flush(page) => self.flush(page),
+                    Call::Read(cell) => self.read(cell),
+                    Call::WriteLog(at, byte) => written(&mut self.log, at, byte),
+                    Call::WriteCharts(at, byte) => written(&mut self.charts, at, byte),
+                }
+            }
+
+            #[inline(never)]
+            #[export_name = $counted]
+            fn make_counted(&mut self, call: Call) -> Answer {
+                self.make(call)
+            }
+
+            fn log(&self) -> &[u8] {
+                &self.log
+            }
+
+            fn charts(&self) -> &[u8] {
+                &self.charts
+            }
         }
-    }
+    };
+}
 
-    #[inline(never)]
-    #[export_name = "counted_proved"]
-    fn make_counted(&mut self, call: Call) -> Answer {
-        self.make(call)
-    }
+charts!(Proved, "counted_proved");
+charts!(Efficient, "counted_efficient");
 
-    fn log(&self) -> &[u8] {
-        &self.log
-    }
-
-    fn charts(&self) -> &[u8] {
-        &self.charts
-    }
+fn written(bytes: &mut [u8], at: u16, byte: u8) -> Answer {
+    bytes[usize::from(at)] = byte;
+    Answer { number: 0, value: 0 }
 }

@@ -1,12 +1,13 @@
 //! The workloads: for each the calls that make ready, and the calls that are measured.
 
 use crate::stores::Call::{self, *};
+use compare::store::CELLS;
 
 /// Puts the calls of a workload into a script.
 pub type Workload = fn(&mut Script);
 
 /// All workloads by their names, in the order of the reports.
-pub const WORKLOADS: [(&str, Workload); 20] = [
+pub const WORKLOADS: [(&str, Workload); 24] = [
     ("format", format),
     ("read", read),
     ("begin", begin),
@@ -27,6 +28,10 @@ pub const WORKLOADS: [(&str, Workload); 20] = [
     ("open: 2,047 open changes of 64 cells", |script| open_changes(script, 64)),
     ("open: 16 visits, many hand-overs", open_handed_round),
     ("open: 2,047 changes undone, of 64 cells", open_undone),
+    ("commit, power fails in its force", cut_commit),
+    ("open: power fails in its undo rows", cut_open),
+    ("open: rejected for its last row", bad_row),
+    ("open: rejected for its last page", bad_page),
 ];
 
 /// What a workload does, in order.
@@ -43,11 +48,12 @@ pub struct Batch {
 }
 
 impl Script {
-    /// The script of a workload: its calls on a new store.
+    /// The script of a workload: its calls on a new store, and in the end a read of every cell.
     pub fn of(workload: Workload) -> Script {
         let mut script = Script { batches: Vec::new(), number: 0 };
         script.prepare([Format, Open]);
         workload(&mut script);
+        script.prepare((0..CELLS).map(|cell| Read(cell as u8)));
         script
     }
 
@@ -79,6 +85,7 @@ impl Script {
 
 fn format(script: &mut Script) {
     script.measure([Format; 4]);
+    script.prepare([Open]);
 }
 
 fn read(script: &mut Script) {
@@ -162,8 +169,13 @@ fn long_abort(script: &mut Script, cells: u16) {
     script.measure([Abort(1)]);
 }
 
-/// 61 visits of 64 changes, and in the rest of the log visits of none, which need no room for undo rows.
 fn open_committed(script: &mut Script) {
+    committed(script);
+    script.measure([Open]);
+}
+
+/// A full log: 61 visits of 64 changes, and visits of none, which need no room for undo rows.
+fn committed(script: &mut Script) {
     for visit in 1..=61 {
         script.prepare([Begin]);
         script.prepare((0..64).map(|cell| Change(visit, cell, 11)));
@@ -172,7 +184,6 @@ fn open_committed(script: &mut Script) {
     for visit in 62..=96 {
         script.prepare([Begin, Commit(visit)]);
     }
-    script.measure([Open]);
 }
 
 fn open_changes(script: &mut Script, cells: u16) {
@@ -200,6 +211,45 @@ fn open_undone(script: &mut Script) {
     script.prepare(changes_of(2_047, 64));
     script.prepare([Abort(1), Force]);
     script.measure([Open]);
+}
+
+/// Commits that have 64 rows to store and power for half of them. What landed is undone by the next opening.
+fn cut_commit(script: &mut Script) {
+    script.number = 5;
+    for visit in 1..=20 {
+        script.prepare([Open, OpenWith(32), Begin]);
+        script.prepare((0..62).map(|cell| Change(visit, cell, 5)));
+        script.measure([Commit(visit)]);
+    }
+    script.prepare([Open]);
+}
+
+/// Openings that have up to 2,048 rows to store and power for 600.
+fn cut_open(script: &mut Script) {
+    script.number = 5;
+    script.prepare([Begin]);
+    script.prepare(changes_of(2_047, 64));
+    script.prepare([Force]);
+    script.measure([OpenWith(600); 3]);
+    script.prepare([Open]);
+}
+
+/// A full log, of which the last byte is not as it should be.
+fn bad_row(script: &mut Script) {
+    script.number = 3;
+    committed(script);
+    script.prepare([WriteLog(65_535, 1)]);
+    script.measure([Open; 3]);
+    script.prepare([WriteLog(65_535, 0), Open]);
+}
+
+/// A full log, and byte 2 of page 31 not as it should be.
+fn bad_page(script: &mut Script) {
+    script.number = 4;
+    committed(script);
+    script.prepare([WriteCharts(31 * 32 + 2, 1)]);
+    script.measure([Open; 3]);
+    script.prepare([WriteCharts(31 * 32 + 2, 0), Open]);
 }
 
 /// Changes by visit 1, of so many cells in turn.

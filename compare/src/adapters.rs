@@ -1,10 +1,34 @@
 //! The two implementations as `Store`s.
 
 use crate::fast::{self, Fuse, Lent, Phase, Ram};
-use crate::paper::{self, Paper, Row};
+use crate::paper::{self, Ledger, Paper, Row};
 use crate::prng::Rng;
 use crate::store::{noise, take_over, with_length};
-use crate::store::{Answer, Buffer, Call, Host, Scope, Store, RIGHT};
+use crate::store::{Answer, Buffer, Call, Host, Scope, State, Store, RIGHT, ROW, ROWS};
+
+impl Paper {
+    /// The state of a store that has these rows in log and tail, and so many scopes in use.
+    pub fn state_by(&self, ledger: &Ledger, used: usize) -> State {
+        if !self.open {
+            return State::CLOSED;
+        }
+        let mut state = State {
+            open: true,
+            fuse: self.fuse,
+            stored: ledger.rows.len() - self.tail.len(),
+            waiting: self.tail.len(),
+            begun: ledger.begin_rows(),
+            active: ledger.active.len(),
+            used,
+            ..State::CLOSED
+        };
+        state.visits[..state.active].copy_from_slice(&ledger.active);
+        for (bytes, row) in state.tail.chunks_exact_mut(ROW).zip(&self.tail) {
+            bytes.copy_from_slice(&row.bytes());
+        }
+        state
+    }
+}
 
 impl Store for Paper {
     fn name(&self) -> &'static str {
@@ -58,6 +82,27 @@ impl Store for Paper {
         }
     }
 
+    fn state(&self) -> State {
+        let ledger = self.ledger();
+        self.state_by(&ledger, ledger.scopes_in_use())
+    }
+
+    fn ram(&self) -> Vec<u8> {
+        let mut ram = vec![u8::from(self.open), u8::from(self.fuse.is_some()), self.tail.len() as u8];
+        ram.extend(self.fuse.unwrap_or(0).to_le_bytes());
+        ram.extend(&self.copy);
+        ram.extend(self.tail.iter().flat_map(|row| row.bytes()));
+        ram
+    }
+
+    fn copied(&self) -> Box<dyn Store> {
+        Box::new(self.clone())
+    }
+
+    fn set_fuse(&mut self, fuse: Option<u32>) {
+        self.fuse = fuse;
+    }
+
     fn log_mut(&mut self) -> &mut [u8] {
         &mut self.log
     }
@@ -84,6 +129,7 @@ impl Store for Paper {
     }
 }
 
+#[derive(Clone)]
 pub struct FastStore {
     host: Host,
     scopes: Vec<Scope>,
@@ -158,6 +204,63 @@ impl Store for FastStore {
         self.scopes.clone()
     }
 
+    fn state(&self) -> State {
+        let Ram { phase, fuse, stored, waiting, tables, tail } = self.ram;
+        State {
+            open: phase == Phase::Open,
+            fuse: match fuse {
+                Fuse::Unlimited => None,
+                Fuse::Left(left) => Some(left),
+            },
+            stored: stored.into(),
+            waiting: waiting.into(),
+            begun: tables.begun.into(),
+            active: tables.active_count.into(),
+            used: tables.scope_count.into(),
+            visits: tables.active,
+            tail,
+        }
+    }
+
+    fn ram(&self) -> Vec<u8> {
+        let Ram { phase, fuse, stored, waiting, tables, tail } = self.ram;
+        let mut ram = Vec::with_capacity(3_072);
+        let (kind, left) = match fuse {
+            Fuse::Unlimited => (0, 0),
+            Fuse::Left(left) => (1, left),
+        };
+        ram.extend([u8::from(phase == Phase::Open), kind]);
+        ram.extend(left.to_le_bytes());
+        let counters = [stored, waiting, tables.begun, tables.active_count, tables.scope_count];
+        ram.extend(counters.iter().chain(&tables.active).flat_map(|number| number.to_le_bytes()));
+        ram.extend(tail);
+        ram.extend(&self.host.copy);
+        for Scope { maker, holder, cell, first, last, handed, count } in &self.scopes {
+            ram.extend([*cell, u8::from(*handed)]);
+            let numbers = [maker, holder, first, last, count];
+            ram.extend(numbers.into_iter().flat_map(|number| number.to_le_bytes()));
+        }
+        ram
+    }
+
+    /// The visits begun are held to their limit too, and rows and reserve together to the log's rows.
+    fn is_ready(&self) -> bool {
+        let state = self.state();
+        if !state.open || !state.is_within_limits() || state.begun > 255 {
+            return false;
+        }
+        let open: usize = self.scopes[..state.used].iter().map(|scope| usize::from(scope.count)).sum();
+        state.stored + state.waiting + state.active + open <= ROWS
+    }
+
+    fn copied(&self) -> Box<dyn Store> {
+        Box::new(self.clone())
+    }
+
+    fn set_fuse(&mut self, fuse: Option<u32>) {
+        self.ram.fuse = fuse.map_or(Fuse::Unlimited, Fuse::Left);
+    }
+
     fn log_mut(&mut self) -> &mut [u8] {
         &mut self.host.log
     }
@@ -175,8 +278,8 @@ impl Store for FastStore {
         noise(seed, &mut self.host.copy);
         let rng = &mut Rng::new(seed ^ 1);
         let wild = rng.below(10);
-        // Sometimes few visits hold much more than the counts tell.
-        let (visits, count) = rng.pick(&[(17, 2), (17, 2), (1, 0)]);
+        // Often few visits hold much more than the counts tell.
+        let (visits, count) = rng.pick(&[(17, 2), (1, 0)]);
         let mut number = |thing: usize, bound: u16| {
             let any = rng.draw() as u16;
             match thing == wild {
@@ -185,14 +288,15 @@ impl Store for FastStore {
             }
         };
         self.ram.stored = number(0, 4_096);
-        if number(10, 1) == 1 {
-            // As good as full.
-            self.ram.stored |= 4_095 - 63;
-        }
         self.ram.waiting = number(1, 64);
         self.ram.tables.begun = number(2, 255);
         self.ram.tables.active_count = number(3, 16);
         self.ram.tables.scope_count = number(4, 64);
+        if number(10, 1) == 1 {
+            // As good as full.
+            let free = self.ram.tables.active_count.saturating_add(number(10, 8));
+            self.ram.stored = 4_096_u16.saturating_sub(self.ram.waiting.saturating_add(free));
+        }
         for visit in &mut self.ram.tables.active {
             *visit = number(5, visits);
         }
@@ -213,8 +317,8 @@ impl Store for FastStore {
             row[1] = rng.below(18) as u8;
         }
         self.ram.fuse = match rng.below(3) {
-            0 => Fuse::Left(rng.below(200) as u32),
-            _ => Fuse::Unlimited,
+            0 => Fuse::Unlimited,
+            _ => Fuse::Left(rng.pick(&[0, 1, 2, 7, 40, 100])),
         };
         self.ram.phase = match rng.below(6) {
             0 => Phase::Closed,

@@ -1,16 +1,22 @@
 //! One case: all stores take the same steps, and after each of them their answers, logs, charts,
-//! copies and scopes are compared with the paper's.
+//! copies, scopes and states are compared with the paper's.
 
 mod careless;
+mod memory;
+mod power;
 
-use crate::cover::Cover;
+use crate::cover::{number_of, Cover};
 use crate::demands::Demands;
-use crate::observe::{self, Moment, Opening};
+use crate::observe::conditions::{self, Conditions};
+use crate::observe::openings::Opening;
+use crate::observe::{self, Moment};
 use crate::paper::{Ledger, Paper};
 use crate::report;
-use crate::steps::Step;
+use crate::steps::{place, Step};
 use crate::store::{Answer, Call, Lengths, Scope, Store, RIGHT};
-use std::panic::{catch_unwind, AssertUnwindSafe};
+use memory::{Leaves, Memory};
+use std::cell::Cell;
+use std::panic::{self, catch_unwind, AssertUnwindSafe};
 
 /// Makes a store of an implementation that is compared with the paper.
 pub type Maker = fn() -> Box<dyn Store>;
@@ -39,22 +45,18 @@ pub struct Arena<'a> {
     cover: &'a mut Cover,
 }
 
-/// What a format, an opening or a call may change of a store's RAM.
-enum RamAfter {
-    Anything,
-    Nothing,
-    /// Every byte is 0: a new store, a rejected one, or a failure of power.
-    Zeros,
-}
-
 /// The answer of a step that calls nothing, or of a call that is left out.
 const NO_CALL: Answer = Answer { number: 0, value: 0 };
 
 impl<'a> Arena<'a> {
     pub fn new(makers: &[Maker], cover: &'a mut Cover) -> Arena<'a> {
+        let others: Vec<Box<dyn Store>> = makers.iter().map(|make| make()).collect();
+        for other in &others {
+            cover.store(other.name());
+        }
         Arena {
             paper: Paper::new(),
-            others: makers.iter().map(|make| make()).collect(),
+            others,
             sound: true,
             demands: Some(Demands::new(&[0; 224])),
             lent: RIGHT,
@@ -169,12 +171,11 @@ impl<'a> Arena<'a> {
 
     fn format(&mut self, cells: &[i32]) -> Outcome<Answer> {
         let (lent, sound) = (self.lent, self.sound);
-        let ram_after = |number| match number {
-            0 => RamAfter::Zeros,
-            _ => RamAfter::Nothing,
-        };
-        let answer = self.compared(|store| store.format(cells), ram_after)?;
-        observe::format(self.cover, cells, lent, sound, answer);
+        let stored = self.paper.stored_rows();
+        let leaves = |number| if number == 0 { Leaves::FORMATTED } else { Leaves::REFUSED };
+        let answer = self.compared(|store| store.format(cells), leaves)?;
+        self.first_condition("format", &conditions::of_format(cells, lent), answer)?;
+        observe::format(self.cover, cells, lent, sound, answer, stored);
         if answer.number == 0 {
             self.sound = true;
             self.demands = Some(Demands::new(cells));
@@ -186,24 +187,33 @@ impl<'a> Arena<'a> {
     fn open(&mut self, fuse: Option<u32>) -> Outcome<Answer> {
         let (lent, sound) = (self.lent, self.sound);
         let stored = self.paper.stored_rows();
-        let ram_after = |number| match number {
-            0 => RamAfter::Anything,
-            1 => RamAfter::Nothing,
-            _ => RamAfter::Zeros,
+        let leaves = |number| match number {
+            0 => Leaves::OPENED,
+            1 => Leaves::REFUSED,
+            5 => Leaves::CUT,
+            _ => Leaves::REJECTED,
         };
-        let answer = self.compared(|store| store.open(fuse), ram_after)?;
+        let answer = self.compared(|store| store.open(fuse), leaves)?;
         self.sound |= answer.number != 1;
         let before = self.after()?;
+        if let 1 | 3 | 4 = answer.number {
+            let holding = conditions::of_opening(lent, &self.paper.log, &self.paper.charts, fuse);
+            self.first_condition("open", &holding, answer)?;
+        } else {
+            let rows = self.moment.stored - stored;
+            self.powered(power::judge(fuse, rows, answer.number, self.paper.fuse))?;
+        }
         let opening = Opening {
             lent,
             sound,
+            fuse,
             answer,
             before: &before,
             stored,
             log: &self.paper.log,
             charts: &self.paper.charts,
         };
-        observe::open(self.cover, &opening);
+        observe::openings::open(self.cover, &opening);
         if let Some(demands) = &self.demands {
             // "An opening whose lent buffers have 01's lengths and whose power holds ends ready."
             let kept = match answer.number {
@@ -220,13 +230,20 @@ impl<'a> Arena<'a> {
     fn call(&mut self, call: Call) -> Outcome<Answer> {
         let lent = self.lent;
         let was_open = self.paper.open;
-        let ram_after = |number| match number {
-            0 => RamAfter::Anything,
-            5 if was_open => RamAfter::Zeros,
-            _ => RamAfter::Nothing,
+        let leaves = |number| match number {
+            0 => Leaves::done(call),
+            5 if was_open => Leaves::CUT,
+            _ => Leaves::REFUSED,
         };
-        let answer = self.compared(|store| store.call(call), ram_after)?;
+        let answer = self.compared(|store| store.call(call), leaves)?;
         let before = self.after()?;
+        let holding = conditions::of_call(call, lent, &before, &self.paper.log);
+        self.first_condition(place(call), &holding, answer)?;
+        if let (true, 0 | 5) = (was_open, answer.number) {
+            let pages = usize::from(matches!(call, Call::FlushPage { .. }) && answer.number == 0);
+            let writes = self.moment.stored - before.stored + pages;
+            self.powered(power::judge(before.fuse, writes, answer.number, self.paper.fuse))?;
+        }
         observe::call(self.cover, call, lent, answer, &before, &self.moment);
         if let (Call::Commit { visit }, 0, Some(demands)) = (call, answer.number, &mut self.demands) {
             let held = before.ledger.changes.iter().filter(|change| change.holder == visit);
@@ -235,6 +252,27 @@ impl<'a> Arena<'a> {
             self.demanded(kept)?;
         }
         Ok(answer)
+    }
+
+    /// Of the conditions of 01's table that hold the first gives the number. Where none holds the call is
+    /// done, or power fails in it.
+    fn first_condition(
+        &mut self,
+        place: &'static str,
+        holding: &Conditions,
+        answer: Answer,
+    ) -> Outcome<()> {
+        self.cover.conditions(place, holding);
+        let number = holding.first().and_then(|label| number_of(label)).unwrap_or(0);
+        if answer.number == number || (number == 0 && answer.number == 5) {
+            return Ok(());
+        }
+        let answer = report::answer(answer);
+        self.differs(format!("{place} is refused by {number} first, the stores answer {answer}"))
+    }
+
+    fn powered(&self, power: Result<(), String>) -> Outcome<()> {
+        power.or_else(|text| self.differs(format!("power: {text}")))
     }
 
     /// After a format, an opening or a call: the rest of the comparison, and a new look at the paper's
@@ -246,6 +284,7 @@ impl<'a> Arena<'a> {
         let before = std::mem::replace(&mut self.moment, moment);
         if self.sound {
             self.compare_scopes()?;
+            self.compare_states()?;
         }
         if let Some(demands) = &mut self.demands {
             let kept = demands.after_call(&self.paper.log);
@@ -287,15 +326,21 @@ impl<'a> Arena<'a> {
         kept.or_else(|text| self.differs(format!("demand 3 is not met: {text}")))
     }
 
-    /// Lets every store make the call and compares answers and bytes. `ram_after` says what an answer's
-    /// number leaves of RAM.
+    /// Lets every store make the call and compares answers and bytes. `leaves` says what an answer's number
+    /// leaves of a store. Log and charts are those of the paper in every store, before and after the call.
     fn compared(
         &mut self,
         call: impl Fn(&mut dyn Store) -> Answer,
-        ram_after: impl Fn(u8) -> RamAfter,
+        leaves: impl Fn(u8) -> Leaves,
     ) -> Outcome<Answer> {
         let step = self.steps.len();
+        let before = Memory::of(&self.paper);
         let expected = guarded(step, &mut self.paper, &call)?;
+        let leaves = leaves(expected.number);
+        if let Err(text) = leaves.judge(&before, &Memory::of(&self.paper)) {
+            let answer = report::answer(expected);
+            return self.differs(format!("paper answers {answer}, and {text}"));
+        }
         for other in &mut self.others {
             let before = other.ram();
             let answer = guarded(step, other.as_mut(), &call)?;
@@ -304,18 +349,9 @@ impl<'a> Arena<'a> {
                 let (expected, answer) = (report::answer(expected), report::answer(answer));
                 return self.differs(format!("paper answers {expected}, {name} {answer}"));
             }
-            let after = other.ram();
-            let wrong = match ram_after(answer.number) {
-                RamAfter::Anything => None,
-                RamAfter::Nothing => (0..after.len()).find(|at| after[*at] != before[*at]),
-                RamAfter::Zeros => after.iter().position(|byte| *byte != 0),
-            };
-            if let Some(at) = wrong {
+            if let Err(text) = leaves.judge_ram(&before, &other.ram()) {
                 let answer = report::answer(answer);
-                let (was, is) = (before[at], after[at]);
-                return self.differs(format!(
-                    "{name} answers {answer}, and byte {at} of its RAM goes from {was} to {is}"
-                ));
+                return self.differs(format!("{name} answers {answer}, and {text}"));
             }
         }
         self.compare_bytes()?;
@@ -360,6 +396,24 @@ impl<'a> Arena<'a> {
         }
         Ok(())
     }
+
+    /// A state is what the rows of log and tail say, and the fuse.
+    fn compare_states(&self) -> Outcome<()> {
+        let Moment { ledger, scopes, .. } = &self.moment;
+        let our = self.paper.state_by(ledger, scopes.len());
+        for other in &self.others {
+            let their = other.state();
+            if our != their {
+                let parts = report::states(&our, &their);
+                return self.differs(format!("state of paper and of {}: {parts}", other.name()));
+            }
+        }
+        Ok(())
+    }
+}
+
+thread_local! {
+    static STORE_RUNS: Cell<bool> = const { Cell::new(false) };
 }
 
 /// Lets a store make a call. A store that panics is a difference, not the end of the comparison.
@@ -369,6 +423,18 @@ fn guarded(
     call: &dyn Fn(&mut dyn Store) -> Answer,
 ) -> Outcome<Answer> {
     let name = store.name();
-    catch_unwind(AssertUnwindSafe(|| call(store)))
-        .map_err(|_| Difference { step, text: format!("{name} panics") })
+    STORE_RUNS.set(true);
+    let result = catch_unwind(AssertUnwindSafe(|| call(store)));
+    STORE_RUNS.set(false);
+    result.map_err(|_| Difference { step, text: format!("{name} panics") })
+}
+
+/// From here on a panic of a store prints nothing: it is reported as a difference.
+pub fn hush_stores() {
+    let print = panic::take_hook();
+    panic::set_hook(Box::new(move |info| {
+        if !STORE_RUNS.get() {
+            print(info);
+        }
+    }));
 }

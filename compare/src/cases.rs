@@ -1,11 +1,14 @@
 //! The cases of the comparison, in parts. Every part makes its cases from a number, the seed, so that
 //! each of them can be made again.
 
+pub mod crowded;
 pub mod cuts;
 pub mod damage;
 pub mod document;
+pub mod full_tails;
 pub mod garbage;
 pub mod limits;
+pub mod row_bytes;
 pub mod rows;
 pub mod runfiles;
 pub mod sessions;
@@ -25,7 +28,7 @@ pub struct Part {
     pub play: fn(&mut Bench, u64) -> Result<(), Failure>,
 }
 
-pub const PARTS: [Part; 12] = [
+pub const PARTS: [Part; 15] = [
     Part {
         name: "document",
         about: "the cases of document 01, with their answers",
@@ -50,6 +53,12 @@ pub const PARTS: [Part; 12] = [
         seeds: [1_500, 16_000],
         play: rows::play,
     },
+    Part {
+        name: "row bytes",
+        about: "every byte of a row of each kind, with every value",
+        seeds: [row_bytes::COUNT; 2],
+        play: row_bytes::play,
+    },
     Part { name: "damage", about: "damaged logs and pages", seeds: [800, 8_000], play: damage::play },
     Part {
         name: "garbage",
@@ -68,6 +77,18 @@ pub const PARTS: [Part; 12] = [
         about: "power failing at every write of calls and openings",
         seeds: [12, 200],
         play: cuts::play,
+    },
+    Part {
+        name: "full tails",
+        about: "full tails, and power failing while they are stored",
+        seeds: [140, 1_400],
+        play: full_tails::play,
+    },
+    Part {
+        name: "crowded",
+        about: "stores at several limits at once, calls with arguments at theirs",
+        seeds: [56, 320],
+        play: crowded::play,
     },
     Part {
         name: "all visits",

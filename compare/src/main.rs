@@ -1,15 +1,16 @@
 //! `compare` plays all cases on the paper's store and on every other implementation, and compares
-//! answers, logs, charts, copies and scopes after each call.
+//! answers, logs, charts, copies, scopes and states after each call.
 //!
-//!     compare                       all cases, well under a minute
-//!     compare --long                many more, some minutes
+//!     compare                       all cases, under a minute
+//!     compare --long                many more, some ten minutes
 //!     compare --part NAME           the cases of one part
 //!     compare --part NAME SEED      one case
+//!     compare --cover               also how often they met each thing that they have to meet
 //!
 //! The exit status is 0 if the stores never differ and the cases met all that they should.
 
 use compare::adapters::FastStore;
-use compare::arena::Maker;
+use compare::arena::{hush_stores, Maker};
 use compare::bench::{Bench, Failure};
 use compare::cases::{Part, PARTS};
 use compare::proved::ProvedStore;
@@ -23,20 +24,22 @@ const MAKERS: [Maker; 2] = [|| Box::new(FastStore::new()), || Box::new(ProvedSto
 
 struct Arguments {
     long: bool,
+    cover: bool,
     part: Option<String>,
     seed: Option<u64>,
 }
 
 /// The arguments, or none if they are not as above.
 fn arguments() -> Option<Arguments> {
-    let mut arguments = Arguments { long: false, part: None, seed: None };
+    let mut arguments = Arguments { long: false, cover: false, part: None, seed: None };
     let mut words = std::env::args().skip(1).peekable();
     while let Some(word) = words.next() {
         match word.as_str() {
             "--long" => arguments.long = true,
+            "--cover" => arguments.cover = true,
             "--part" => {
                 let name = words.next()?;
-                let seed = words.next_if(|word| word != "--long");
+                let seed = words.next_if(|word| !word.starts_with("--"));
                 arguments.seed = seed.map(|word| word.parse()).transpose().ok()?;
                 arguments.part = PARTS.iter().any(|part| part.name == name).then_some(name);
                 arguments.part.as_ref()?;
@@ -50,14 +53,13 @@ fn arguments() -> Option<Arguments> {
 fn main() -> ExitCode {
     let Some(arguments) = arguments() else {
         let names: Vec<&str> = PARTS.iter().map(|part| part.name).collect();
-        eprintln!("usage: compare [--long] [--part NAME [SEED]], NAME being one of");
+        eprintln!("usage: compare [--long] [--cover] [--part NAME [SEED]], NAME being one of");
         eprintln!("  {}", names.join(", "));
         return ExitCode::FAILURE;
     };
     let chosen = |part: &&Part| arguments.part.as_ref().is_none_or(|name| part.name == name);
     let mut bench = Bench::new(MAKERS.to_vec());
-    // A store that panics is reported as a difference.
-    std::panic::set_hook(Box::new(|_| {}));
+    hush_stores();
     for part in PARTS.iter().filter(chosen) {
         let begin = Instant::now();
         let (cases, calls) = (bench.cases, bench.calls);
@@ -70,17 +72,18 @@ fn main() -> ExitCode {
                 return fail(&bench.makers, part, seed, &failure);
             }
         }
+        let (cases, calls) = (bench.cases - cases, bench.calls - calls);
+        let seconds = begin.elapsed().as_secs_f64();
         println!(
-            "{:<11} {:>7} cases {:>9} calls {:>6.1} s  {}",
-            part.name,
-            bench.cases - cases,
-            bench.calls - calls,
-            begin.elapsed().as_secs_f64(),
-            part.about
+            "{:<11} {cases:>7} cases {calls:>9} calls {seconds:>6.1} s  {}",
+            part.name, part.about
         );
+        bench.cover.played(part.name, cases, calls);
+    }
+    if arguments.cover {
+        bench.cover.print();
     }
     if arguments.part.is_none() {
-        bench.cover.print();
         let faults = bench.cover.faults();
         for fault in &faults {
             println!("{fault}");
@@ -89,6 +92,7 @@ fn main() -> ExitCode {
             println!("compare: {} cases, {} things amiss in what they met", bench.cases, faults.len());
             return ExitCode::FAILURE;
         }
+        println!("{} things met, each as often as asked for", bench.cover.things());
     }
     println!("compare: {} cases, {} calls, no difference", bench.cases, bench.calls);
     ExitCode::SUCCESS

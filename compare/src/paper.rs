@@ -446,6 +446,7 @@ pub fn answer(outcome: Outcome) -> Answer {
 
 /// "Stored charts", "stored log" and "in RAM: a copy of the charts, a tail of at most 64 rows not yet
 /// stored", with the fuse of the opening and whether the store is open.
+#[derive(Clone)]
 pub struct Paper {
     pub log: Vec<u8>,
     pub charts: Vec<u8>,

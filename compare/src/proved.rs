@@ -2,12 +2,15 @@
 //! writes, and the arrays that they work on; and the proved program `relog`, which `rt check relog` builds.
 
 use crate::prng::Rng;
-use crate::store::{noise, with_length, Answer, Buffer, Call, Lengths, Scope, Store, RIGHT};
+use crate::store::{noise, with_length};
+use crate::store::{Answer, Buffer, Call, Lengths, Scope, State, Store, MOST_ACTIVE, RIGHT};
 use std::io::Write;
 use std::process::{Command, Stdio};
 
 /// Numbers of an entry of the scope table.
 const ENTRY: usize = 7;
+/// Numbers of a place of the active visits.
+const PLACE: usize = 2;
 /// No fuse.
 const NO_FUSE: u32 = u32::MAX;
 
@@ -31,9 +34,13 @@ impl Ram {
 
     /// All of it, byte by byte.
     fn bytes(&self) -> Vec<u8> {
-        let head = self.head.iter().flat_map(|number| number.to_le_bytes());
-        let tables = self.visits.iter().chain(&self.scopes).flat_map(|number| number.to_le_bytes());
-        head.chain(tables).chain(self.tail).chain(self.copy).collect()
+        let mut bytes = Vec::with_capacity(RAM_LENGTH);
+        bytes.extend(self.head.iter().flat_map(|number| number.to_le_bytes()));
+        let tables = self.visits.iter().chain(&self.scopes);
+        bytes.extend(tables.flat_map(|number| number.to_le_bytes()));
+        bytes.extend(self.tail);
+        bytes.extend(self.copy);
+        bytes
     }
 }
 
@@ -99,43 +106,57 @@ impl Proved {
     pub fn new() -> Proved {
         Proved { ram: Box::new(Ram::ZERO), log: vec![0; RIGHT.log], charts: vec![0; RIGHT.charts] }
     }
+}
 
+/// A function of its own for each call: it lends the arrays to the store's function, as a program that
+/// links the store does. `#[inline(never)]` gives callgrind a name to find it by.
+impl Proved {
+    #[inline(never)]
     pub fn format(&mut self, cells: &[i32]) -> Answer {
         call!(self.chart_format_on(cells.as_ptr(), cells.len() as u64))
     }
 
+    #[inline(never)]
     pub fn open(&mut self, fuse: Option<u32>) -> Answer {
         call!(self.chart_open_on(fuse.unwrap_or(NO_FUSE)))
     }
 
+    #[inline(never)]
     pub fn begin(&mut self) -> Answer {
         call!(self.chart_begin_on())
     }
 
+    #[inline(never)]
     pub fn change(&mut self, visit: u16, cell: u8, amount: i16) -> Answer {
         call!(self.chart_change_on(visit, cell, amount))
     }
 
+    #[inline(never)]
     pub fn hand_over(&mut self, giver: u16, receiver: u16, cell: u8) -> Answer {
         call!(self.chart_hand_over_on(giver, receiver, cell))
     }
 
+    #[inline(never)]
     pub fn commit(&mut self, visit: u16) -> Answer {
         call!(self.chart_commit_on(visit))
     }
 
+    #[inline(never)]
     pub fn abort(&mut self, visit: u16) -> Answer {
         call!(self.chart_abort_on(visit))
     }
 
+    #[inline(never)]
     pub fn force(&mut self) -> Answer {
         call!(self.chart_force_on())
     }
 
+    #[inline(never)]
     pub fn flush(&mut self, page: u8) -> Answer {
         call!(self.chart_flush_on(page))
     }
 
+    #[inline(never)]
     pub fn read(&mut self, cell: u8) -> Answer {
         call!(self.chart_read_on(cell))
     }
@@ -148,7 +169,7 @@ impl Default for Proved {
 }
 
 /// The proved store as a `Store` of the comparison.
-#[derive(Default)]
+#[derive(Clone, Default)]
 pub struct ProvedStore {
     store: Proved,
     lengths: Lengths,
@@ -242,12 +263,39 @@ impl Store for ProvedStore {
         self.store.ram.scopes.chunks_exact(ENTRY).map(entry).collect()
     }
 
+    /// In RAM that a host has altered any number but 0 is an open phase and a fuse, and the visits begun
+    /// are read modulo 65,536.
+    fn state(&self) -> State {
+        let Ram { head, visits, tail, .. } = self.store.ram.as_ref();
+        let [phase, kind, left, stored, waiting, begun, active, used] = *head;
+        let mut listed = [0; MOST_ACTIVE];
+        for (visit, place) in listed.iter_mut().zip(visits.chunks_exact(PLACE)) {
+            *visit = place[0];
+        }
+        State {
+            open: phase != 0,
+            fuse: (kind != 0).then_some(left),
+            stored: stored as usize,
+            waiting: waiting as usize,
+            begun: begun as usize % 65_536,
+            active: active as usize,
+            used: used as usize,
+            visits: listed,
+            tail: *tail,
+        }
+    }
+
     fn ram(&self) -> Vec<u8> {
         self.store.ram.bytes()
     }
 
-    fn is_closed(&self) -> bool {
-        self.store.ram.head[0] == 0
+    fn copied(&self) -> Box<dyn Store> {
+        Box::new(self.clone())
+    }
+
+    fn set_fuse(&mut self, fuse: Option<u32>) {
+        let head = &mut self.store.ram.head;
+        [head[1], head[2]] = [u32::from(fuse.is_some()), fuse.unwrap_or(0)];
     }
 
     fn log_mut(&mut self) -> &mut [u8] {
@@ -262,7 +310,8 @@ impl Store for ProvedStore {
         self.lengths.set(buffer, length);
     }
 
-    /// Any numbers at all; in most cases with counters within their bounds, so that calls go far.
+    /// Any numbers at all; in most cases with counters, visits and scopes within their bounds, so that calls
+    /// go far, and often with few rows free and few writes left.
     fn scramble(&mut self, seed: u64) {
         let rng = &mut Rng::new(seed ^ 1);
         let ram = &mut self.store.ram;
@@ -271,17 +320,31 @@ impl Store for ProvedStore {
         ram.scopes.iter_mut().for_each(|number| *number = rng.draw() as u16);
         rng.fill(&mut ram.tail);
         noise(seed, &mut ram.copy);
-        if rng.chance(5, 6) {
-            let [phase, kind, left, stored, waiting, begun, active, used] = &mut ram.head;
-            *phase = u32::from(rng.chance(7, 8));
-            *kind = rng.below(3) as u32;
-            *left = rng.below(100) as u32;
-            *stored = rng.below(4_097) as u32;
-            *waiting = rng.below(65) as u32;
-            *begun = rng.below(300) as u32;
-            *active = rng.below(17) as u32;
-            *used = rng.below(65) as u32;
-            ram.visits.iter_mut().for_each(|number| *number %= 18);
+        if rng.chance(1, 6) {
+            return;
+        }
+        let [phase, kind, left, stored, waiting, begun, active, used] = &mut ram.head;
+        *phase = u32::from(rng.chance(7, 8));
+        *kind = rng.below(3) as u32;
+        *left = rng.pick(&[0, 1, 2, 7, 40, 100]);
+        *stored = rng.below(4_097) as u32;
+        *waiting = rng.below(65) as u32;
+        if rng.chance(1, 3) {
+            *stored = 4_096 - *waiting - rng.pick(&[0, 0, 1, 8, 40]);
+        }
+        *begun = rng.below(300) as u32;
+        *active = rng.below(17) as u32;
+        *used = rng.below(65) as u32;
+        ram.visits.iter_mut().for_each(|number| *number %= 18);
+        let most = rng.pick(&[18, 2]);
+        for entry in ram.scopes.chunks_exact_mut(ENTRY) {
+            let [maker, holder, cell, first, last, _, count] = entry else { continue };
+            *maker %= most;
+            *holder %= most;
+            *cell %= 256;
+            *first %= 200;
+            *last %= 4_097;
+            *count %= 3;
         }
     }
 }

@@ -3,7 +3,7 @@
 use crate::arena::Difference;
 use crate::paper::{Row, ABORT, BEGIN, CHANGE, COMMIT, HAND_OVER, UNDO};
 use crate::steps::{place, Step};
-use crate::store::{Answer, Call, Scope};
+use crate::store::{Answer, Call, Scope, State};
 
 /// The steps of a case, the last of which shows the difference.
 pub fn case(steps: &[Step], difference: &Difference) -> String {
@@ -50,6 +50,26 @@ pub fn scope(scope: Option<&Scope>) -> String {
     let Scope { maker, holder, cell, first, last, handed, count } = scope;
     let handed = if *handed { ", handed over" } else { "" };
     format!("maker {maker}, holder {holder}, cell {cell}, rows {first} to {last}, {count} open{handed}")
+}
+
+/// The parts in which two states differ, as the first and as the second has them.
+pub fn states(one: &State, two: &State) -> String {
+    let parts = |state: &State| {
+        [
+            ("open", state.open.to_string()),
+            ("fuse", format!("{:?}", state.fuse)),
+            ("rows stored", state.stored.to_string()),
+            ("rows waiting", state.waiting.to_string()),
+            ("visits begun", state.begun.to_string()),
+            ("visits active", state.active.to_string()),
+            ("scopes in use", state.used.to_string()),
+            ("active visits", format!("{:?}", state.visits)),
+            ("tail", format!("{:?}", state.tail)),
+        ]
+    };
+    let differing = parts(one).into_iter().zip(parts(two)).filter(|(one, two)| one != two);
+    let texts = differing.map(|((name, one), (_, two))| format!("{name}, {one} and {two}"));
+    texts.collect::<Vec<String>>().join("; ")
 }
 
 pub fn call(call: Call) -> String {

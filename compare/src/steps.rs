@@ -17,7 +17,7 @@ pub enum Step {
     WriteLogByte(usize, u8),
     /// Writes bytes of the stored charts.
     WriteCharts(usize, Vec<u8>),
-    /// Calls on arbitrary RAM or on altered buffers: each has to end with a number of the table.
+    /// Calls on arbitrary RAM or on altered buffers: `arena/careless.rs` says what is asked of them.
     Garbage(u64, Vec<Call>),
 }
 

@@ -25,6 +25,12 @@ impl Default for Lengths {
 
 /// Cells that a format takes.
 pub const CELLS: usize = 224;
+/// Bytes of a row.
+pub const ROW: usize = 16;
+/// Rows that the log has, that the tail has, visits that are active at a time, all at most.
+pub const ROWS: usize = 4_096;
+pub const TAIL_ROWS: usize = 64;
+pub const MOST_ACTIVE: usize = 16;
 
 #[derive(Clone, Copy, PartialEq, Eq, Debug)]
 pub enum Buffer {
@@ -90,6 +96,48 @@ pub struct Scope {
     pub count: u16,
 }
 
+/// What a store keeps in RAM beside the copy and the entries of the scope table. A closed store has
+/// `State::CLOSED`.
+#[derive(Clone, PartialEq, Eq, Debug)]
+pub struct State {
+    pub open: bool,
+    /// The stored writes that still land, or none if they are not counted.
+    pub fuse: Option<u32>,
+    /// Rows of the stored log, and of the tail.
+    pub stored: usize,
+    pub waiting: usize,
+    /// Visits begun, visits active, and scopes in use.
+    pub begun: usize,
+    pub active: usize,
+    pub used: usize,
+    /// The active visits, ascending, and zeros after them.
+    pub visits: [u16; MOST_ACTIVE],
+    /// The bytes of the rows that wait, and zeros after them.
+    pub tail: [u8; TAIL_ROWS * ROW],
+}
+
+impl State {
+    pub const CLOSED: State = State {
+        open: false,
+        fuse: None,
+        stored: 0,
+        waiting: 0,
+        begun: 0,
+        active: 0,
+        used: 0,
+        visits: [0; MOST_ACTIVE],
+        tail: [0; TAIL_ROWS * ROW],
+    };
+
+    /// Whether rows, active visits and scopes are as many as log, tail and tables have room for.
+    pub fn is_within_limits(&self) -> bool {
+        self.waiting <= TAIL_ROWS
+            && self.stored + self.waiting <= ROWS
+            && self.active <= MOST_ACTIVE
+            && self.used <= RIGHT.scopes
+    }
+}
+
 pub trait Store {
     /// The name in reports.
     fn name(&self) -> &'static str;
@@ -103,16 +151,21 @@ pub trait Store {
     fn copy(&self) -> &[u8];
     /// All entries of the scope table, unused ones too, in any order.
     fn scopes(&self) -> Vec<Scope>;
-    /// All that the store keeps in RAM, byte by byte, where the host lends it as bytes and numbers: a
-    /// refusal changes none of them, and a failure of power leaves zeros. Empty for a store that keeps its
-    /// state in a value of its own.
-    fn ram(&self) -> Vec<u8> {
-        Vec::new()
+    fn state(&self) -> State;
+    /// All that the store has in RAM, byte by byte: state, copy and scope table. A refusal changes none of
+    /// them, and a failure of power leaves zeros.
+    fn ram(&self) -> Vec<u8>;
+    /// Whether RAM is that of an open store whose counters are within their limits. In any other RAM every
+    /// call but format and open answers 5 and changes nothing.
+    fn is_ready(&self) -> bool {
+        let state = self.state();
+        state.open && state.is_within_limits()
     }
-    /// Whether RAM says that the store is closed, where the host can read that: then no call changes it.
-    fn is_closed(&self) -> bool {
-        false
-    }
+
+    /// The same store once more, memory and RAM.
+    fn copied(&self) -> Box<dyn Store>;
+    /// Puts another fuse in the place of the one that runs.
+    fn set_fuse(&mut self, fuse: Option<u32>);
 
     /// The stored log, for a host that writes there.
     fn log_mut(&mut self) -> &mut [u8];
@@ -136,6 +189,7 @@ pub fn noise(seed: u64, copy: &mut [u8]) {
 }
 
 /// The buffers of a host, and the lengths with which it lends them to the next call.
+#[derive(Clone)]
 pub struct Host {
     pub log: Vec<u8>,
     pub charts: Vec<u8>,

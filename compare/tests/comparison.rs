@@ -2,71 +2,148 @@
 
 use compare::adapters::FastStore;
 use compare::arena::{Arena, Maker};
-use compare::bench::Bench;
-use compare::cases::sessions;
+use compare::bench::{Bench, Failure};
+use compare::cases::{garbage, sessions};
 use compare::cover::Cover;
 use compare::paper::{Ledger, Row, ABORT, BEGIN, CHANGE, COMMIT, HAND_OVER, UNDO};
 use compare::shrink::shrink;
 use compare::steps::{begin, change, open, read, Step};
-use compare::store::{Answer, Buffer, Call, Scope, Store};
+use compare::store::{Answer, Buffer, Call, Scope, State, Store};
 use std::time::Duration;
 
-/// A store that reads 1 g too much of a cell that weighs something.
-struct Wrong(FastStore);
+/// What is wrong with a store.
+#[derive(Clone, Copy, PartialEq)]
+enum Fault {
+    /// It reads 1 g too much of a cell that weighs something.
+    Read,
+    /// Its fuse has one write too many.
+    Fuse,
+    /// It leaves a byte in RAM when power fails in a call.
+    Ram,
+    /// It moves a byte of RAM when it refuses a call by 9.
+    Refusal,
+    /// It answers 5 in RAM that no calls leave, with power to go on: the first active visit is 0.
+    Altered,
+}
+
+/// A store with a fault.
+#[derive(Clone)]
+struct Wrong {
+    store: FastStore,
+    fault: Fault,
+    /// What the fault adds to the last byte of RAM.
+    byte: u8,
+}
+
+impl Wrong {
+    fn boxed(fault: Fault) -> Box<dyn Store> {
+        Box::new(Wrong { store: FastStore::new(), fault, byte: 0 })
+    }
+}
 
 impl Store for Wrong {
     fn name(&self) -> &'static str {
         "wrong"
     }
     fn format(&mut self, cells: &[i32]) -> Answer {
-        self.0.format(cells)
+        self.store.format(cells)
     }
     fn open(&mut self, fuse: Option<u32>) -> Answer {
-        self.0.open(fuse)
+        let more = u32::from(self.fault == Fault::Fuse);
+        self.store.open(fuse.map(|left| left + more))
     }
     fn call(&mut self, call: Call) -> Answer {
-        let mut answer = self.0.call(call);
-        if matches!(call, Call::Read { .. }) && answer.value != 0 {
-            answer.value += 1;
+        let state = self.state();
+        if self.fault == Fault::Altered && self.is_ready() && state.active > 0 && state.visits[0] == 0 {
+            return Answer { number: 5, value: 0 };
+        }
+        let mut answer = self.store.call(call);
+        match (self.fault, call, answer.number) {
+            (Fault::Read, Call::Read { .. }, 0) if answer.value != 0 => answer.value += 1,
+            (Fault::Ram, _, 5) if state.open => self.byte = 1,
+            (Fault::Refusal, _, 9) => self.byte = self.byte.wrapping_add(1),
+            _ => {}
         }
         answer
     }
     fn log(&self) -> &[u8] {
-        self.0.log()
+        self.store.log()
     }
     fn charts(&self) -> &[u8] {
-        self.0.charts()
+        self.store.charts()
     }
     fn copy(&self) -> &[u8] {
-        self.0.copy()
+        self.store.copy()
     }
     fn scopes(&self) -> Vec<Scope> {
-        self.0.scopes()
+        self.store.scopes()
+    }
+    fn state(&self) -> State {
+        self.store.state()
+    }
+    fn ram(&self) -> Vec<u8> {
+        let mut ram = self.store.ram();
+        if let Some(last) = ram.last_mut() {
+            *last = last.wrapping_add(self.byte);
+        }
+        ram
+    }
+    fn is_ready(&self) -> bool {
+        self.store.is_ready()
+    }
+    fn copied(&self) -> Box<dyn Store> {
+        Box::new(self.clone())
+    }
+    fn set_fuse(&mut self, fuse: Option<u32>) {
+        self.store.set_fuse(fuse)
     }
     fn log_mut(&mut self) -> &mut [u8] {
-        self.0.log_mut()
+        self.store.log_mut()
     }
     fn charts_mut(&mut self) -> &mut [u8] {
-        self.0.charts_mut()
+        self.store.charts_mut()
     }
     fn lend(&mut self, buffer: Buffer, length: usize) {
-        self.0.lend(buffer, length)
+        self.store.lend(buffer, length)
     }
     fn scramble(&mut self, seed: u64) {
-        self.0.scramble(seed)
+        self.store.scramble(seed)
     }
+}
+
+/// The first failure in the cases of a part, with the right store and the wrong one.
+fn found(wrong: Maker, play: fn(&mut Bench, u64) -> Result<(), Failure>) -> (Vec<Maker>, Failure) {
+    let makers: Vec<Maker> = vec![|| Box::new(FastStore::new()), wrong];
+    let mut bench = Bench::new(makers.clone());
+    let failure = (0..50).find_map(|seed| play(&mut bench, seed).err());
+    let failure = failure.expect("the wrong store was not found");
+    assert!(failure.difference.text.contains("wrong"), "{}", failure.difference.text);
+    (makers, failure)
 }
 
 #[test]
 fn a_wrong_store_is_found_and_the_case_is_short() {
-    let makers: Vec<Maker> = vec![|| Box::new(FastStore::new()), || Box::new(Wrong(FastStore::new()))];
-    let mut bench = Bench::new(makers.clone());
-    let failure = (0..50).find_map(|seed| sessions::play(&mut bench, seed).err());
-    let failure = failure.expect("the wrong store was not found");
+    let (makers, failure) = found(|| Wrong::boxed(Fault::Read), sessions::play);
     let shortest = shrink(&makers, &failure.steps, Duration::from_secs(10)).unwrap();
     // An opening, a read, and before them a format or a visit's change.
     assert!(shortest.steps.len() <= 4, "{:?}", shortest.steps);
     assert!(shortest.difference.text.contains("wrong"));
+}
+
+#[test]
+fn faults_in_ram_are_found() {
+    let (_, fuse) = found(|| Wrong::boxed(Fault::Fuse), sessions::play);
+    assert!(fuse.difference.text.contains("fuse"), "{}", fuse.difference.text);
+    let (_, ram) = found(|| Wrong::boxed(Fault::Ram), sessions::play);
+    assert!(ram.difference.text.contains("its RAM"), "{}", ram.difference.text);
+    let (_, refusal) = found(|| Wrong::boxed(Fault::Refusal), sessions::play);
+    assert!(refusal.difference.text.contains("its RAM"), "{}", refusal.difference.text);
+}
+
+#[test]
+fn a_5_with_power_to_go_on_is_found_in_altered_ram() {
+    let (_, failure) = found(|| Wrong::boxed(Fault::Altered), garbage::play);
+    assert!(failure.difference.text.contains("altered RAM"), "{}", failure.difference.text);
 }
 
 #[test]

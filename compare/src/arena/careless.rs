@@ -1,13 +1,23 @@
 //! A host that does not keep to document 01: between two calls it passes another state, or writes to
-//! the memory. "Then it still ends, with a result or a number from the table." And "a refusal changes
-//! no byte", except that power may have failed during the call.
+//! the memory. "Then it still ends, with a result or a number from the table." This much is said of it:
+//!
+//! - A refusal changes no byte. 1 comes before all else, whatever RAM holds.
+//! - A store that is closed, or has counters beyond their limits, answers 5 and changes no byte.
+//! - In all other RAM a fuse decides nothing but where power fails. The same call without a fuse says
+//!   which writes it makes: if the fuse has as many, the call answers and leaves the same and the fuse has
+//!   so many less; if it has fewer, just these land, the call answers 5 and every byte of RAM is 0.
+//! - A commit or an abort may find tables that ask for more rows than the log has. It answers 5 and leaves
+//!   RAM as power does, with a fuse or without.
 
-use super::{guarded, Arena, Outcome};
+use super::memory::{Leaves, Memory};
+use super::{guarded, power, Arena, Difference, Outcome};
 use crate::cover::is_in_table;
-use crate::observe;
+use crate::paper::{Row, UNDO};
 use crate::prng::Rng;
 use crate::report;
-use crate::store::{Buffer, Call, Scope, Store, RIGHT};
+use crate::store::{Answer, Buffer, Call, State, Store, RIGHT, ROW, ROWS, TAIL_ROWS};
+
+const BUFFERS: [Buffer; 4] = [Buffer::Log, Buffer::Charts, Buffer::Copy, Buffer::Scopes];
 
 impl Arena<'_> {
     /// Makes the calls with every store but the paper's. In the end all stores get the paper's log and
@@ -15,26 +25,17 @@ impl Arena<'_> {
     pub(super) fn careless_host(&mut self, seed: u64, calls: &[Call]) -> Outcome<()> {
         let step = self.steps.len();
         self.lent = RIGHT;
-        for buffer in [Buffer::Log, Buffer::Charts, Buffer::Copy, Buffer::Scopes] {
+        for buffer in BUFFERS {
             self.for_all(|store| store.lend(buffer, RIGHT.get(buffer)));
         }
         for other in &mut self.others {
             alter(&mut Rng::new(seed), other.as_mut());
-            for call in calls {
-                let was_closed = other.is_closed();
-                let before = bytes_of(other.as_ref());
-                let answer = guarded(step, other.as_mut(), &|store| store.call(*call))?;
-                let after = bytes_of(other.as_ref());
-                let ends_closed = answer.number == 5 && !was_closed && after.is_closed_after(&before);
-                let keeps_bytes = answer.number == 0 || before == after || ends_closed;
-                if !is_in_table(*call, answer.number) || !keeps_bytes {
-                    let (name, call) = (other.name(), report::call(*call));
-                    let bytes = if keeps_bytes { "" } else { ", and changes bytes" };
-                    let answer = report::answer(answer);
-                    return self.differs(format!("{name} answers {answer} to {call}{bytes}"));
+            for (call, buffer) in calls.iter().zip(BUFFERS.into_iter().cycle()) {
+                for wrong_buffer in [Some(buffer), None] {
+                    let ending = make(step, other.as_mut(), *call, wrong_buffer)?;
+                    self.cover.altered(other.name(), ending);
+                    self.calls += 1;
                 }
-                self.calls += 1;
-                observe::garbage(self.cover, answer);
             }
             other.log_mut().copy_from_slice(&self.paper.log);
             other.charts_mut().copy_from_slice(&self.paper.charts);
@@ -45,33 +46,143 @@ impl Arena<'_> {
     }
 }
 
-/// The bytes and entries that a refusal must not change.
-#[derive(PartialEq)]
-struct Bytes {
-    log: Vec<u8>,
-    charts: Vec<u8>,
-    copy: Vec<u8>,
-    scopes: Vec<Scope>,
-    ram: Vec<u8>,
+/// How a call ended, as the cover names it; or what is wrong with that.
+type Ending = Result<&'static str, String>;
+
+/// A call that was made, and the store before and after it.
+struct Made {
+    call: Call,
+    answer: Answer,
+    state: State,
+    before: Memory,
+    after: Memory,
 }
 
-impl Bytes {
-    /// Whether this is what a failure of power leaves.
-    fn is_closed_after(&self, before: &Bytes) -> bool {
-        self.charts == before.charts
-            && self.ram.iter().all(|byte| *byte == 0)
-            && self.copy.iter().all(|byte| *byte == 0)
-            && self.scopes.iter().all(|scope| *scope == Scope::default())
+/// Makes the call, with a buffer of a wrong length if one is given, and says how it ended.
+fn make(
+    step: usize,
+    store: &mut dyn Store,
+    call: Call,
+    wrong: Option<Buffer>,
+) -> Outcome<&'static str> {
+    let is_ready = store.is_ready();
+    let mut whole = store.copied();
+    whole.set_fuse(None);
+    if let Some(buffer) = wrong {
+        store.lend(buffer, RIGHT.get(buffer) + 1);
     }
+    let (state, before) = (store.state(), Memory::of(store));
+    let answer = guarded(step, store, &|store| store.call(call))?;
+    let made = Made { call, answer, state, before, after: Memory::of(store) };
+    let ending = if !is_in_table(call, answer.number) || (answer.number != 0 && answer.value != 0) {
+        Err("not an answer of the table".into())
+    } else if wrong.is_some() {
+        made.refused_by(1).map(|()| "refused by 1")
+    } else if answer.number == 1 {
+        Err("all buffers have their lengths".into())
+    } else if !made.state.open {
+        made.refused_by(5).map(|()| "5, the store is closed")
+    } else if !is_ready {
+        made.refused_by(5).map(|()| "5, counters beyond their limits")
+    } else {
+        let without_fuse = guarded(step, whole.as_mut(), &|store| store.call(call))?;
+        made.judged_by(without_fuse, whole.as_ref(), store)
+    };
+    ending.map_err(|text| {
+        let (name, call, answer) = (store.name(), report::call(call), report::answer(answer));
+        Difference {
+            step,
+            text: format!("altered RAM or buffers: {name} answers {answer} to {call}: {text}"),
+        }
+    })
 }
 
-fn bytes_of(store: &dyn Store) -> Bytes {
-    Bytes {
-        log: store.log().to_vec(),
-        charts: store.charts().to_vec(),
-        copy: store.copy().to_vec(),
-        scopes: store.scopes(),
-        ram: store.ram(),
+impl Made {
+    fn refused_by(&self, number: u8) -> Result<(), String> {
+        if self.answer.number != number {
+            return Err(format!("the answer should be {number}"));
+        }
+        Leaves::REFUSED.judge(&self.before, &self.after)
+    }
+
+    /// The store is open and its counters are within their limits. `whole` is the same store after the same
+    /// call without a fuse, which answered `without_fuse`; `store` is the one with the fuse.
+    fn judged_by(&self, without_fuse: Answer, whole: &dyn Store, store: &dyn Store) -> Ending {
+        match without_fuse.number {
+            0 => {
+                let pages = usize::from(matches!(self.call, Call::FlushPage { .. }));
+                let rows = whole.state().stored.checked_sub(self.state.stored);
+                let writes = rows.ok_or("it has fewer rows stored than before")? + pages;
+                match self.state.fuse {
+                    Some(left) if (left as usize) < writes => {
+                        self.cut(whole).map(|()| "5, power failed")
+                    }
+                    fuse => {
+                        self.done(without_fuse, writes, whole, store)?;
+                        Ok(if fuse.is_some() { "done under a fuse" } else { "done" })
+                    }
+                }
+            }
+            5 => {
+                self.log_is_full(whole)?;
+                self.cut(whole).map(|()| "5, the log is full")
+            }
+            number => self.refused_by(number).map(|()| "refused by another number"),
+        }
+    }
+
+    /// The fuse sufficed for all writes.
+    fn done(
+        &self,
+        without_fuse: Answer,
+        writes: usize,
+        whole: &dyn Store,
+        store: &dyn Store,
+    ) -> Result<(), String> {
+        if self.answer != without_fuse {
+            return Err(format!("without a fuse it answers {}", report::answer(without_fuse)));
+        }
+        power::judge(self.state.fuse, writes, 0, store.state().fuse)?;
+        let mut unfused = store.copied();
+        unfused.set_fuse(None);
+        Leaves::REFUSED
+            .judge(&Memory::of(whole), &Memory::of(unfused.as_ref()))
+            .map_err(|text| format!("without a fuse and with one, {text}"))
+    }
+
+    /// Power failed: of the rows that `whole` wrote those landed that the fuse had writes for.
+    fn cut(&self, whole: &dyn Store) -> Result<(), String> {
+        if self.answer.number != 5 {
+            return Err("the fuse has too few writes, or the log too few rows".into());
+        }
+        Leaves::CUT.judge(&self.before, &self.after)?;
+        let left = self.state.fuse.map_or(ROWS, |left| left as usize);
+        let landed = ROW * ROWS.min(self.state.stored + left);
+        let log = [&whole.log()[..landed], &self.before.log[landed..]].concat();
+        if self.after.log != log {
+            return Err(format!("rows have landed other than those of {left} writes"));
+        }
+        Ok(())
+    }
+
+    /// Without a fuse the call ends for want of rows: a commit finds none for its own; an abort has used up
+    /// all that were free for undo rows, of which the last, no more than a tail, need not be stored.
+    fn log_is_full(&self, whole: &dyn Store) -> Result<(), String> {
+        let rows = self.state.stored + self.state.waiting;
+        let undo_rows = rows + 1..=ROWS - TAIL_ROWS;
+        let is_undo_row = |number: usize| {
+            let row = Row::read(&whole.log()[ROW * (number - 1)..ROW * number]);
+            row.kind == UNDO && usize::from(row.number) == number
+        };
+        let is_full = match self.call {
+            Call::Commit { .. } => rows == ROWS,
+            Call::Abort { .. } => undo_rows.into_iter().all(is_undo_row),
+            _ => false,
+        };
+        if !is_full {
+            return Err("there is no fuse, and the log is not full".into());
+        }
+        Leaves::CUT.judge(&self.before, &Memory::of(whole))
     }
 }
 

@@ -2,7 +2,7 @@
 //! over. Some alterations make another allowed log, and the store goes on from there.
 
 use super::rows::spoil;
-use super::sessions::{formatted, fuse, habits, next_call, session};
+use super::sessions::{any_call, formatted, fuse, habits, lend, next_call, session};
 use crate::arena::{Arena, Outcome};
 use crate::bench::{Bench, Failure};
 use crate::prng::Rng;
@@ -20,16 +20,29 @@ pub fn play(bench: &mut Bench, seed: u64) -> Result<(), Failure> {
         for _ in 0..12 {
             let log = rows_of(arena);
             let charts = arena.paper.charts.clone();
-            if rng.chance(2, 3) {
+            let (in_log, in_charts) =
+                rng.pick(&[(true, false), (true, false), (false, true), (true, true)]);
+            if in_log {
                 damage_log(rng, arena, &log)?;
-            } else {
+            }
+            if in_charts {
                 damage_charts(rng, arena)?;
+            }
+            if rng.chance(1, 6) {
+                arena.step(lend(rng))?;
+                arena.step(Step::Open(fuse(rng)))?;
             }
             let answer = arena.step(Step::Open(fuse(rng)))?;
             let call = next_call(rng, &habits, arena.ledger());
             arena.step(Step::Call(call))?;
-            // A rejected store is repaired.
+            // A rejected store is closed to every call, and is repaired.
             if answer.number == 3 || answer.number == 4 {
+                for _ in 0..2 {
+                    if rng.chance(1, 2) {
+                        arena.step(lend(rng))?;
+                    }
+                    arena.step(Step::Call(any_call(rng)))?;
+                }
                 arena.step(Step::WriteLog(log))?;
                 arena.step(Step::WriteCharts(0, charts))?;
             }

@@ -1,7 +1,7 @@
 //! Hosts that do not keep to document 01: calls on arbitrary states, tables and buffers have to end
 //! with a number of the table; and openings of arbitrary bytes, which are compared like any other.
 
-use super::sessions::{formatted, fuse, habits, next_call, session};
+use super::sessions::{any_call, formatted, fuse, habits, next_call, session};
 use crate::bench::{Bench, Failure};
 use crate::paper::Ledger;
 use crate::prng::Rng;
@@ -16,7 +16,13 @@ pub fn play(bench: &mut Bench, seed: u64) -> Result<(), Failure> {
         for _ in 0..4 {
             let (fuse, length) = (fuse(rng), rng.below(40));
             session(rng, arena, &habits, fuse, length)?;
-            let calls = (0..1 + rng.below(12)).map(|_| any_call(rng)).collect();
+            let mut calls: Vec<Call> = (0..1 + rng.below(12)).map(|_| any_call(rng)).collect();
+            if rng.chance(1, 3) {
+                // These two may ask for more rows than the log has.
+                let visit = rng.pick(&[0, 1, 1, 1, 2]);
+                let abort = Call::Abort { visit };
+                calls.insert(0, rng.pick(&[abort, abort, Call::Commit { visit }]));
+            }
             arena.step(Step::Garbage(rng.draw(), calls))?;
             if rng.chance(1, 4) {
                 arena.step(Step::Format(formatted(rng)))?;
@@ -30,23 +36,6 @@ pub fn play(bench: &mut Bench, seed: u64) -> Result<(), Failure> {
         Ok(())
     })?;
     Ok(())
-}
-
-/// A call with arguments that are often in range.
-fn any_call(rng: &mut Rng) -> Call {
-    let mut visit = || rng.pick(&[0, 1, 1, 1, 2, 5, 11, 16, 17, 255, 256]);
-    let (visit, receiver) = (visit(), visit());
-    let cell = rng.byte();
-    match rng.below(8) {
-        0 => Call::Begin,
-        1 => Call::Change { visit, cell, amount: rng.draw() as i16 },
-        2 => Call::HandOver { giver: visit, receiver, cell },
-        3 => Call::Commit { visit },
-        4 => Call::Abort { visit },
-        5 => Call::Force,
-        6 => Call::FlushPage { page: cell / 4 },
-        _ => Call::Read { cell },
-    }
 }
 
 /// Rows of arbitrary bytes with right own numbers, kinds and, mostly, zeros where they belong.

@@ -159,13 +159,19 @@ fn open_and_try(
     })?;
     for _ in 0..tries.min(made.refused.len()) {
         let (length, bytes) = rng.pick(&made.refused);
-        let mut rows = made.rows[..length].to_vec();
-        rows.push(bytes);
-        bench.case(|arena| {
-            arena.step(Step::WriteLog(rows))?;
-            arena.expect(Step::Open(None), 3, length as i64 + 1)
-        })?;
+        try_refused(bench, &made.rows[..length], bytes)?;
     }
+    Ok(())
+}
+
+/// A row that is not allowed after these is refused.
+fn try_refused(bench: &mut Bench, before: &[[u8; 16]], row: [u8; 16]) -> Result<(), Failure> {
+    let mut rows = before.to_vec();
+    rows.push(row);
+    bench.case(|arena| {
+        arena.step(Step::WriteLog(rows))?;
+        arena.expect(Step::Open(None), 3, before.len() as i64 + 1)
+    })?;
     Ok(())
 }
 
@@ -193,20 +199,56 @@ pub fn play(bench: &mut Bench, seed: u64) -> Result<(), Failure> {
     open_and_try(bench, rng, &made, &habits, 6)
 }
 
-/// First begin, change and hand-over rows alone, until the reserve leaves no room; then all kinds.
+/// The rows that a full log lacks room for, and that lack nothing else: a begin, a change in the last scope
+/// and a hand-over of it.
+fn lacking_room(ledger: &Ledger) -> Vec<[u8; 16]> {
+    let number = ledger.rows.len() as u16 + 1;
+    let begin = Row { kind: BEGIN, visit: ledger.begin_rows() as u16 + 1, number, ..Row::default() };
+    let mut rows = vec![begin];
+    if let Some(last) = ledger.open_changes().next_back() {
+        let (visit, cell) = (last.holder, last.cell);
+        rows.push(Row { kind: CHANGE, visit, cell, change: 1, ..begin });
+        let other = ledger.active.iter().find(|other| **other != visit);
+        rows.extend(other.map(|other| Row { kind: HAND_OVER, visit, receiver: *other, cell, ..begin }));
+    }
+    rows.iter().map(Row::bytes).filter(|bytes| !is_allowed(ledger, bytes)).collect()
+}
+
+/// Begin and change rows, some hand-over rows, then all three, until the reserve leaves no room. A cell that
+/// was handed over takes another scope with its maker's next change, so that many hand-overs would use up
+/// the scopes first.
+fn fill(rng: &mut Rng, made: &mut Made, habits: &Habits) {
+    let changes = rng.pick(&[1_500, 2_000]);
+    grow(rng, made, &[4, 60, 0, 0, 0, 0], habits, changes);
+    let hand_overs = made.rows.len() + rng.below(40);
+    grow(rng, made, &[0, 1, 60, 0, 0, 0], habits, hand_overs);
+    grow(rng, made, &[4, 60, 1, 0, 0, 0], habits, 4_096);
+}
+
+/// A log that is full but for the reserve. Then some changes are undone and a visit commits, and what room
+/// that makes is filled too. Then rows of all kinds.
 pub fn play_full(bench: &mut Bench, seed: u64) -> Result<(), Failure> {
     let rng = &mut Rng::new(seed);
-    let habits = Habits { visits: rng.pick(&[1, 5, 16]), ..habits(rng) };
+    let mut habits = Habits { visits: rng.pick(&[1, 5, 15]), ..habits(rng) };
+    // So few cells that the scopes suffice.
+    habits.cells.truncate(60 / habits.visits);
     let mut made = Made::default();
-    let fill = [4, 60, rng.pick(&[0, 10, 60]), 0, 0, 0];
-    grow(rng, &mut made, &fill, &habits, 4_096);
-    made.refused.retain(|(length, _)| *length > 1_000);
-    open_and_try(bench, rng, &made, &habits, 5)?;
+    for _ in 0..2 {
+        fill(rng, &mut made, &habits);
+        let length = made.rows.len();
+        made.refused.retain(|(rows, _)| rows + 3 > length);
+        open_and_try(bench, rng, &made, &habits, 3)?;
+        for row in lacking_room(&made.ledger) {
+            try_refused(bench, &made.rows, row)?;
+        }
+        grow(rng, &mut made, &[0, 0, 0, 1, 0, 0], &habits, length + 30);
+        grow(rng, &mut made, &[0, 0, 0, 0, 1, 0], &habits, length + 31);
+    }
     for _ in 0..6 {
         let taste = taste(rng);
         grow(rng, &mut made, &taste, &habits, 4_096);
     }
     let drain = [1, 1, 1, 40, 1, 20];
     grow(rng, &mut made, &drain, &habits, 4_096);
-    open_and_try(bench, rng, &made, &habits, 5)
+    open_and_try(bench, rng, &made, &habits, 3)
 }

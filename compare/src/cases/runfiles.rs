@@ -40,7 +40,7 @@ fn sessions(rng: &mut Rng, arena: &mut Arena) -> Outcome<Vec<Session>> {
     let mut sessions = Vec::new();
     arena.step(Step::Format(vec![0; CELLS]))?;
     for _ in 0..1 + rng.below(4) {
-        let fuse = fuse(rng).filter(|left| *left != u32::MAX);
+        let fuse = fuse(rng);
         let mut calls = Vec::new();
         arena.step(Step::Open(fuse))?;
         for _ in 0..rng.below(40) {

@@ -84,6 +84,23 @@ pub fn next_call(rng: &mut Rng, habits: &Habits, ledger: &Ledger) -> Call {
     }
 }
 
+/// A call of a host that sees nothing, with arguments that are often in range.
+pub fn any_call(rng: &mut Rng) -> Call {
+    let mut visit = || rng.pick(&[0, 1, 1, 1, 2, 5, 11, 16, 17, 255, 256]);
+    let (visit, receiver) = (visit(), visit());
+    let cell = rng.byte();
+    match rng.below(8) {
+        0 => Call::Begin,
+        1 => Call::Change { visit, cell, amount: rng.draw() as i16 },
+        2 => Call::HandOver { giver: visit, receiver, cell },
+        3 => Call::Commit { visit },
+        4 => Call::Abort { visit },
+        5 => Call::Force,
+        6 => Call::FlushPage { page: cell / 4 },
+        _ => Call::Read { cell },
+    }
+}
+
 /// Mostly an active visit; else one that ended, one that never began, or a number far off.
 fn any_visit(rng: &mut Rng, habits: &Habits, ledger: &Ledger) -> u16 {
     let is_odd = rng.below(habits.odd) == 0;
@@ -118,13 +135,14 @@ pub fn held_cell(rng: &mut Rng, ledger: &Ledger, visit: u16) -> Option<u8> {
     (!held.is_empty() && rng.chance(4, 5)).then(|| rng.pick(&held))
 }
 
+/// No fuse, or one that is used up soon, or late, or never. 4,294,967,295 is none for C.
 pub fn fuse(rng: &mut Rng) -> Option<u32> {
     match rng.below(6) {
         0 | 1 => None,
         2 => Some(rng.below(8) as u32),
         3 => Some(rng.below(100) as u32),
         4 => Some(rng.below(600) as u32),
-        _ => Some(u32::MAX - rng.below(2) as u32),
+        _ => Some(rng.pick(&[1 << 16, 1 << 24, 1 << 31, u32::MAX - 2, u32::MAX - 1, u32::MAX - 1])),
     }
 }
 
@@ -199,7 +217,7 @@ pub fn play(bench: &mut Bench, seed: u64) -> Result<(), Failure> {
                 let at = rng.below(CELLS);
                 cells[at] = rng.pick(&[1_000_001, -1_000_001, i32::MAX, i32::MIN, 0]);
                 cells.truncate(rng.pick(&[CELLS, CELLS, CELLS - 1]));
-                if rng.chance(1, 4) {
+                if rng.chance(1, 2) {
                     arena.step(lend(rng))?;
                 }
                 arena.step(Step::Format(cells))?;

@@ -7,7 +7,7 @@ use crate::paper::{ABORT, BEGIN, COMMIT};
 use crate::steps::*;
 use crate::store::{Buffer, CELLS};
 
-pub const TEXT: [Case; 32] = [
+pub const TEXT: [Case; 33] = [
     Case {
         name: "the run file's example with fuse 3",
         play: |a| {
@@ -494,6 +494,18 @@ pub const TEXT: [Case; 32] = [
             is_refused(a, &with(&log, hand_over_row(1, 2, 0, 2_050)))?;
             opens(a, &with(&log, row(COMMIT, 1, 2_050)), 1)?;
             opens(a, &with(&log, undo_row(1, 0, 1, 2_047, 2_050)), 2_046)
+        },
+    },
+    Case {
+        name: "rows: an undo row takes its change out of the reserve",
+        play: |a| {
+            let mut log = vec![row(BEGIN, 1, 1), row(BEGIN, 2, 2)];
+            log.extend((3..=2_002).map(|number| change_row(1, 0, 1, number)));
+            log.extend((2_003..=2_502).map(|number| undo_row(1, 0, 1, 4_005 - number, number)));
+            // 1,594 rows are free, 1,502 in reserve: 46 changes more.
+            log.extend((2_503..=2_548).map(|number| change_row(2, 7, 1, number)));
+            opens(a, &log, 1_548)?;
+            is_refused(a, &with(&log, change_row(2, 7, 1, 2_549)))
         },
     },
     Case {

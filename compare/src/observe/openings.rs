@@ -1,0 +1,113 @@
+//! What an opening found and left.
+
+use super::{cuts, is_on_page, label, undo_rows, Moment};
+use crate::cover::Cover;
+use crate::paper::{self, get_mark, rows_of, Ledger, Row, UNDO};
+use crate::store::{Answer, Lengths};
+
+pub struct Opening<'a> {
+    pub lent: Lengths,
+    /// Whether the opening got the RAM that the call before it left.
+    pub sound: bool,
+    pub fuse: Option<u32>,
+    pub answer: Answer,
+    pub before: &'a Moment,
+    /// The rows that it found in the log.
+    pub stored: usize,
+    /// The log that it left.
+    pub log: &'a [u8],
+    pub charts: &'a [u8],
+}
+
+pub fn open(cover: &mut Cover, opening: &Opening) {
+    let Opening { fuse, answer, before, stored, log, .. } = *opening;
+    cover.answer("open", label(answer.number, opening.lent));
+    match answer.number {
+        0 | 5 => {}
+        3 => return refused_log(cover, log, answer.value as usize),
+        _ => return,
+    }
+    cover.shape_if(
+        true,
+        match fuse {
+            None => "fuse none",
+            Some(0) => "fuse 0",
+            Some(1) => "fuse 1",
+            Some(2..=7) => "fuse 2 to 7",
+            Some(8..=99) => "fuse 8 to 99",
+            Some(100..=65_535) => "fuse 100 to 65,535",
+            Some(..=4_294_967_293) => "fuse of more than 16 bits",
+            Some(_) => "fuse 4,294,967,294",
+        },
+    );
+    let rows = rows_of(log);
+    let new = &rows[stored..];
+    cover.shape_if(!opening.sound, "opening of arbitrary RAM");
+    let lost = opening.sound && before.open && before.waiting > 0;
+    cover.shape_if(lost, "opening of waiting rows, without a cut");
+    if answer.number == 5 {
+        return cuts::opening(cover, &Ledger::of(&rows[..stored]), new.len());
+    }
+    cover.most("rows written by an opening", new.len());
+    cover.most("rows stored", rows.len());
+    cover.shape_if(new.is_empty(), "opening that wrote no row");
+    cover.shape_if(new.len() > 64, "opening that wrote more than 64 rows");
+    let last_write = !new.is_empty() && fuse == Some(new.len() as u32);
+    cover.shape_if(last_write, "opening done with the last write of its fuse");
+    cover.shape_if(stored == 4_096, "opening of a full log");
+    undo_rows(cover, &rows, new);
+    found_rows(cover, &rows[..stored]);
+    for page in 0..32 {
+        let mark = usize::from(get_mark(opening.charts, usize::from(page)));
+        if mark > 0 {
+            let above = rows[mark..stored].iter().any(|row| is_on_page(row, page));
+            cover.shape_if(above, "opening of a page with rows above its mark");
+            let undone = rows[mark - 1].kind == UNDO;
+            cover.shape_if(undone, "opening of a page whose mark is an undo row");
+        }
+    }
+}
+
+/// The rows that an opening found in the log.
+fn found_rows(cover: &mut Cover, rows: &[Row]) {
+    let undo_rows: Vec<&Row> = rows.iter().filter(|row| row.kind == UNDO).collect();
+    if undo_rows.is_empty() {
+        return;
+    }
+    let in_turns = undo_rows.windows(2).enumerate().any(|(at, pair)| {
+        let mut later = undo_rows[at + 2..].iter();
+        pair[0].visit != pair[1].visit && later.any(|row| row.visit == pair[0].visit)
+    });
+    cover.shape_if(in_turns, "opening of a log with undo rows of visits in turns");
+    let ledger = Ledger::of(rows);
+    let is_half_undone =
+        |visit: &u16| ledger.bears_undo(*visit) && ledger.highest_open(*visit).is_some();
+    let half_undone = ledger.active.iter().any(is_half_undone);
+    cover.shape_if(half_undone, "opening of a log with a visit half undone");
+    let wholly_undone = ledger.scopes().iter().any(|scope| scope.count == 0);
+    cover.shape_if(wholly_undone, "opening of a log with a scope wholly undone in use");
+}
+
+/// A log that was refused at this row.
+fn refused_log(cover: &mut Cover, log: &[u8], row: usize) {
+    let place = match log[(row - 1) * 16] {
+        _ if row > rows_of(log).len() => "log refused after its end",
+        paper::BEGIN => "log refused at a begin row",
+        paper::CHANGE => "log refused at a change row",
+        paper::HAND_OVER => "log refused at a hand-over row",
+        paper::UNDO => "log refused at an undo row",
+        paper::COMMIT => "log refused at a commit row",
+        paper::ABORT => "log refused at an abort row",
+        _ => "log refused at an unknown kind",
+    };
+    cover.shape_if(true, place);
+    let rows = rows_of(&log[..row * 16]);
+    let before = Ledger::of(&rows[..rows.len().min(row - 1)]);
+    let lacks = |rows| before.free() < before.reserve() + rows;
+    match log[(row - 1) * 16] {
+        paper::BEGIN => cover.shape_if(lacks(2), "log refused at a begin row without room"),
+        paper::CHANGE => cover.shape_if(lacks(2), "log refused at a change row without room"),
+        paper::HAND_OVER => cover.shape_if(lacks(1), "log refused at a hand-over row without room"),
+        _ => {}
+    }
+}
