@@ -9,22 +9,49 @@
  *   log     CHART_LOG_LENGTH bytes that keep their contents without power: the stored log, 4,096 rows of 16 bytes.
  *   charts  CHART_CHARTS_LENGTH bytes that keep their contents without power: the stored charts, 32 pages of 32 bytes.
  *
- * A chart_store says where they are. The host sees to this:
+ * A chart_store says where they are; docs/FORMAT.md has what every byte of them means.
+ *
+ * What the host sees to
  *
  *   - The pointers are not null, and point to as many bytes as the struct's type and the two lengths say.
  *   - RAM, log, charts and the cells of a format do not overlap.
  *   - Two calls on the same store do not run at the same time, not even in an interrupt.
  *   - Between two calls it leaves RAM, log and charts alone. If it does not, each call still ends with an answer, but the charts may be wrong.
+ *   - The memory of log and charts stores as is said next.
  *
  * Nothing else is asked: a log, charts or cells of another length are refused (CHART_WRONG_LENGTH), and no argument and no contents of RAM, log and charts
  * can make a call trap, run on or write elsewhere. A refused call changes no byte, but for the calls in which the power fails (CHART_CLOSED) and the openings
  * that reject the store (CHART_BAD_ROW, CHART_BAD_PAGE): they leave every byte of RAM 0.
  *
- * A call writes one row (16 bytes) or one page (32 bytes) of the stored memory at a time, in the order that write-ahead logging needs. If the power fails
- * at any point between two of these writes, chart_open brings the store back: every committed change is in the charts, every other one is undone. That a row
- * or a page is stored whole or not at all is the memory's part.
+ * What the memory of log and charts must do
  *
- * The calls use the stack only. How much of it is measured, not proved (folder `bench`).
+ * A call writes one row (16 bytes) or one page (32 bytes) of the stored memory at a time, in the order that write-ahead logging needs. If the power fails
+ * at any point between two of these writes, chart_open brings the store back: every committed change is in the charts, every other one is undone. That
+ * supposes of the memory:
+ *
+ *   Each row and each page is stored whole or not at all, and in the order in which the call writes them.
+ *
+ * The library writes them by plain stores to the lent addresses, with no barrier; docs/FORMAT.md says which stores the archive makes of a row and of a page.
+ * So the host provides:
+ *
+ *   - memory-mapped FRAM or MRAM whose bus writes go straight to the cells, the log at a multiple of 16 and the charts at a multiple of 32 bytes;
+ *   - no cache and no write buffer that holds these stores back or reorders them;
+ *   - power that is known to hold from the first store of a row or a page to its last: brown-out detection that warns early, and a capacitor. A reset in the
+ *     middle of a call (watchdog, detector, debugger) counts as a power failure, and may not fall inside a row or a page either.
+ *
+ * Where the part cannot store 16 or 32 bytes as one, as on a bus of 32 bits, it takes hold-up energy for the few microseconds of one row or page, and a
+ * processor that is not stopped inside one: for instance, after the warning the host starts no further call, and the one that runs returns on the capacitor.
+ * Without that such a part must not be used: a page that is torn between its mark and its cells is not seen by the check of an opening, and a committed
+ * change is then missing or counted twice.
+ *
+ * Which processor
+ *
+ * The archive libembed.a is for x86-64 Linux, the only target of the toolchain. The proofs are about the source, on a machine whose usize has 64 bits: for the
+ * processor of a 32-bit unit the source has to be compiled by a back end for it, and the lengths below, which are uint64_t, are then those of that back end.
+ * The calls use the stack only. How much of it, and of RAM, was measured on x86-64, and is not proved (folder `bench`).
+ *
+ * The log is not emptied: it takes 4,096 rows and 255 visits. When CHART_NO_ROOM or CHART_VISITS_USED_UP comes, the host ends all visits, reads the cells and
+ * formats the store with them; during the format the power must hold.
  */
 #ifndef CHART_STORE_H
 #define CHART_STORE_H
@@ -51,17 +78,18 @@ extern "C" {
 #define CHART_CELLS_PER_PAGE 7u   /* cell c lies on page c / 7 */
 #define CHART_VISITS 255u         /* visits of one log, numbered from 1 */
 #define CHART_ACTIVE_VISITS 16u   /* visits that are active at a time */
-#define CHART_SCOPES 64u          /* scopes in use at a time: changes of one cell by one visit that it has not handed over since */
+#define CHART_SCOPES 64u          /* scopes in use at a time: a scope is the changes of one cell by one visit between two of its hand-overs of the cell */
 
 #define CHART_FORMAT_GRAMS 1000000   /* a format takes cells from -1,000,000 to 1,000,000 g */
 #define CHART_STORED_GRAMS 200000000 /* an opening takes stored cells from -200,000,000 to 200,000,000 g */
 
-/* The fuse that never burns: the stored writes of the session are not counted. */
+/* The fuse that never burns: the stored writes of the session are not counted. A fuse of 4,294,967,295 writes is not offered. */
 #define CHART_NO_FUSE 4294967295u
 
 /* ---- What is lent ---- */
 
-/* The store's RAM. What the numbers say is the library's affair; after a format, a power failure and a rejected log or page all of them are 0. */
+/* The store's RAM. What the numbers say is the library's affair (docs/FORMAT.md has it); after a format, a power failure and a rejected log or page all of
+ * them are 0. */
 typedef struct chart_ram {
     uint32_t head[8];     /* phase, kind of the fuse, writes left, rows stored, rows waiting, visits begun, visits active, scopes in use */
     uint16_t visits[32];  /* 16 active visits */
@@ -93,8 +121,8 @@ enum {
     CHART_WRONG_LENGTH = 1,    /* log or charts have another length, or a format other than CHART_CELLS cells */
     CHART_OUT_OF_RANGE = 2,    /* format: a cell beyond 1,000,000 g either way; the value is the first such cell */
     CHART_BAD_ROW = 3,         /* open: a row that is not allowed, or a byte after the end; the value is its row. The store is closed; log and charts are unchanged */
-    CHART_BAD_PAGE = 4,        /* open: a page that no log explains; the value is the page. The store is closed; log and charts are unchanged */
-    CHART_CLOSED = 5,          /* the store is closed, or the power failed in this call (the fuse burnt) and it is closed now: open it again */
+    CHART_BAD_PAGE = 4,        /* open: a page with a mark that is no row of it, bytes 2-3 not 0, or a cell out of bounds; the value is the page. Else as 3 */
+    CHART_CLOSED = 5,          /* the store is closed, or the power failed in this call (the fuse burnt) and it is closed now, or RAM was altered and its counters are beyond their limits: open it again */
     CHART_VISITS_USED_UP = 6,  /* begin: 255 visits were begun in this log */
     CHART_TOO_MANY_ACTIVE = 7, /* begin: 16 visits are active */
     CHART_NO_ROOM = 8,         /* the log has no room besides what active visits need to end */
@@ -155,7 +183,8 @@ chart_answer chart_read_on(CHART_ARRAYS, uint8_t cell);
     (s)->ram->head, (s)->ram->visits, (s)->ram->scopes, (s)->ram->tail, (s)->ram->copy, (s)->log, (s)->log_length, (s)->charts, (s)->charts_length
 
 /* Makes an empty store: no rows, and each cell at its value of `cells` (CHART_CELLS numbers, in grams; cells_length counts numbers). The power must hold
- * until it returns. The store is closed afterwards. Value 0. Refusals 1, 2. */
+ * until it returns; if it did not, the store has to be formatted again, since an opening may accept what is there. The store is closed afterwards. Value 0.
+ * Refusals 1, 2. */
 static inline chart_answer chart_format(const chart_store *s, const int32_t *cells, uint64_t cells_length) {
     return chart_format_on(CHART_OF(s), cells, cells_length);
 }
@@ -166,7 +195,8 @@ static inline chart_answer chart_format(const chart_store *s, const int32_t *cel
  * Value: the rows that it wrote. Refusals 1, 3, 4, 5. */
 static inline chart_answer chart_open(const chart_store *s, uint32_t fuse) { return chart_open_on(CHART_OF(s), fuse); }
 
-/* Begins a visit. Value: its number. Refusals 1, 5, 6, 7, 8. */
+/* Begins a visit. Its row waits in RAM; if the power fails before it is stored (by a commit, a force or a full tail), the number is given again.
+ * Value: its number. Refusals 1, 5, 6, 7, 8. */
 static inline chart_answer chart_begin(const chart_store *s) { return chart_begin_on(CHART_OF(s)); }
 
 /* The visit adds `amount` grams to the cell. Value: the row's number. Refusals 1, 5, 9, 10, 11, 8. */

@@ -6,7 +6,7 @@
 
 #include "chart_store.h"
 
-/* In firmware these two lie in the memory that keeps its bytes. */
+/* In firmware these two lie in the memory that keeps its bytes, which has to store a row or a page whole or not at all (the header says how). */
 static uint8_t stored_log[CHART_LOG_LENGTH];
 static uint8_t stored_charts[CHART_CHARTS_LENGTH];
 
