@@ -12,7 +12,7 @@ def text(cells):
         lent(lfts, 4, 'cs', 'i32', mut=False) if cells else data(lfts, 'X', 'a', 'xv', 'a-is')]
     # what the core has: the lifetimes, and the parameters
     cored = [0, 1, 2, 4][:lfts - 1]
-    core = [state, log, charts, copy, Param('length ys', 'vint w64 (length ys) ∷ []', 'usize', 'plain (λ _. usize)'), Param('t', 'tvals t', 'Tb', 'plain (λ _. Tb)'),
+    core = [state, log, charts, copy, Param('length ys', 'vint w64 (length ys) ∷ []', 'usize', 'plain (λ _. usize)'), Param('t', 'tvals t', 'Tb 64', 'plain (λ _. Tb 64)'),
             lent(lfts, 3, 'cs', 'i32', 'κ₄', mut=False) if cells else x]
     core_token = [token(lfts)[j] for j in cored]
 
@@ -25,7 +25,7 @@ def text(cells):
         'scopes': value('(slice (named 3) mut entries)'),
         'x': value('(slice (named 4) imm cell)' if cells else '(lone (X .row .mir))'),
         'n': value('word'),
-        't': value('table'),
+        't': value('(table 64)'),
         'o': value('(lone (O .row .mir))'),
         'shared at': value('(tyRef erased imm entries)'),
         'shared': value('(slice erased imm entries)'),
@@ -33,7 +33,7 @@ def text(cells):
         'unit': value('tyUnit'),
         'scopes again at': value('(tyRef erased mut entries)'),
         'scopes again': value('(slice erased mut entries)'),
-        'left': value('table'),
+        'left': value('(table 64)'),
     })
     passed = ['state', *(f'{b} again' for b in BUFFERS), 'n', 't', 'x']
     statements = [
@@ -69,13 +69,13 @@ def text(cells):
         f'{move(2, 0)} use2 W (raw (Load 𝓤 H A mem run .pre (to-load 𝓤 H A mem run ν (as-shared δ)))) (goes-load 𝓤 H A mem run W ν (as-shared δ)) $',
         'calls-known ! (fmOf 𝓤 H (W .laws) 𝓣) load′.ended (load′.clauses 𝓤 H A mem run) known-load (to-load 𝓤 H A mem run ν (as-shared δ)) (λ r. r ≡ t) (λ r z. id⊢ 𝓤 _)'
         f' {operands([load(p("shared"))])} (λ w₁ r₁ e₁ is₁. drop ! $',
-        lands(p('t'), '(t-typed 𝓤 H A W r₁ w₁ is₁)') + f' rewrite ! {p("t")} (λ (us : List Val). ‵ (fat fullShare table l{sub(local.number("t"))} 0 (only us))) (t-tells r₁ (w₁ ∷ []) is₁ ∙ ap tvals e₁) refl $',
+        lands(p('t'), '(t-typed 𝓤 H A W 64 r₁ w₁ is₁)') + f' rewrite ! {p("t")} (λ (us : List Val). ‵ (fat fullShare (table 64) l{sub(local.number("t"))} 0 (only us))) (t-tells 64 r₁ (w₁ ∷ []) is₁ ∙ ap tvals e₁) refl $',
         f'use1 W (‵ (flft (ν ∷ []) fullShare) ⊛ ‵ ftrue) (id⊢ 𝓤 _) $ split ! $ lft-end ! tt $ {move(0, 2)}',
         f'use2 W (later (‵ (MutSlice (named 3) κ₃ R .own ss (sv ss ∷ [])) ⊛ ‵ (flft κ₃ q₃))) (shared-back {borrow} 𝓤 H A W (named 3) (named 0) ys ss-room) $ await ! tt $ split ! $ {move(2)} drop ! $',
         f'-- [what scopes owns; its token; the other tokens; what {owners.replace("scopes, ", "")} own; _{last} at {2 * lfts}; …]: they are copied, and given to the core for good',
         *(s for j, b in enumerate(BUFFERS) for s in lends(p, b, f'{b} again', f's{sub(j)}-room')),
         f'nothing ! $ {move(2 + lfts, 0) if cells else "owned ! (X .row) (Is (X .row)) (X .makes 𝓤 H A) a (xv ∷ []) a-is $"} fjoin ! $',
-        'owned ! Tb (Is Tb) (t-made 𝓤 H A W) t (tvals t) (t-known r₁ t w₁ e₁ is₁) $ fjoin ! $ owned ! usize (Is usize) (uint-makes 𝓤 H A W w64) (length ys) (vint w64 (length ys) ∷ []) (refl, ss-room .0) $ fjoin ! $',
+        'owned ! (Tb 64) (Is (Tb 64)) (t-made 𝓤 H A W 64) t (tvals t) (t-known 64 r₁ t w₁ e₁ is₁) $ fjoin ! $ owned ! usize (Is usize) (uint-makes 𝓤 H A W w64) (length ys) (vint w64 (length ys) ∷ []) (refl, ss-room .0) $ fjoin ! $',
         f'{move(2 + lfts, 0)} fjoin ! $ ' * 3 + 'owned ! (K .row) (Is (K .row)) (K .makes 𝓤 H A) k (kv ∷ []) k-is $ fjoin ! $',
         'nothing ! $ ' + f'{move(4, 0)} join ! $ ' * len(cored) + 'use2 W (raw (Core 𝓤 H A .pre to-core)) goes-core $',
         f'-- [what the core asks; what scopes owns; its token; _{last} at 3; …]',
@@ -91,9 +91,9 @@ def text(cells):
         'use0 W (raw (TableOf 𝓤 H A mem run .pre (to-table-of 𝓤 H A mem run r₂ w₂))) (goes-table-of 𝓤 H A mem run W r₂ w₂ is₂) $',
         'calls-known ! (fmOf 𝓤 H (W .laws) 𝓣) table-of.ended (table-of.clauses 𝓤 H A mem run) known-table-of (to-table-of 𝓤 H A mem run r₂ w₂) (λ r. r ≡ r₂ .table) (λ r z. id⊢ 𝓤 _)'
         f' {operands([load(p6("o") + 1)])} (λ w₃ r₃ e₃ is₃. drop ! $ drop ! $',
-        lands(p6('left'), '(t-typed 𝓤 H A W r₃ w₃ is₃)') + f' rewrite ! {p6("left")} (λ (us : List Val). ‵ (fat fullShare table l{sub(local.number("left"))} 0 (only us))) (t-tells r₃ (w₃ ∷ []) is₃ ∙ ap tvals e₃) refl $',
+        lands(p6('left'), '(t-typed 𝓤 H A W 64 r₃ w₃ is₃)') + f' rewrite ! {p6("left")} (λ (us : List Val). ‵ (fat fullShare (table 64) l{sub(local.number("left"))} 0 (only us))) (t-tells 64 r₃ (w₃ ∷ []) is₃ ∙ ap tvals e₃) refl $',
         '-- the table is stored: the borrow is given up for good',
-        f'{move(5, 4)} use2 W (raw (Store 𝓤 H A mem run .pre (to-store 𝓤 H A mem run κ₃ q₃ ss (r₂ .table)))) (goes-store 𝓤 H A mem run W κ₃ q₃ ss (r₂ .table) (t-known r₃ (r₂ .table) w₃ e₃ is₃)) $',
+        f'{move(5, 4)} use2 W (raw (Store 𝓤 H A mem run .pre (to-store 𝓤 H A mem run κ₃ q₃ ss (r₂ .table)))) (goes-store 𝓤 H A mem run W κ₃ q₃ ss (r₂ .table) (t-known 64 r₃ (r₂ .table) w₃ e₃ is₃)) $',
         f'calls-at ! (fmOf 𝓤 H (W .laws) 𝓣) (Store 𝓤 H A mem run) known-store (to-store 𝓤 H A mem run κ₃ q₃ ss (r₂ .table)) {operands([load(p6(name) - 1) for name in ["scopes again", "left"]])} (λ w₄.',
         'use1 W (later (some (λ (r : Unit {0}). ((‵ (flft κ₃ q₃) ⊛ ‵ ftrue) ⊛ ‵ (Nothing .own r (w₄ ∷ []))) ⊛ raw (ensured 𝓤 H A store′.ended (store′.clauses 𝓤 H A mem run) (κ₃, tt) (ss, (r₂ .table, tt)) tt r)))) (id⊢ 𝓤 _) $ await ! tt $ pick ! (λ r₄.',
         f'split ! $ {move(1)} use1 W (some (λ (us : List Scope × (Unit {{0}} × Unit {{0}})). ‵ (lasts store′.ended (κ₃, tt) (ss, (r₂ .table, tt)) us) ⊛ raw (fact 𝓤 (us .0 ≡ stored ys (r₂ .table))))) (id⊢ 𝓤 _) $ pick ! (λ us.',
@@ -114,6 +114,7 @@ def text(cells):
     return fill(TEMPLATE, {
         **stated(lfts, params),
         'imports': IMPORTS.rstrip(),
+        'running': ' (mem : Memory → SProp 𝓤) (run : Routine → Fun 𝓤)',
         'to-which': 'to which cells are lent' if cells else 'whose last parameter is plain data, of any type X',
         'x': 'cells' if cells else 'x',
         'x-type': '&[i32]' if cells else 'X',

@@ -1,7 +1,7 @@
 -- The functions that the public calls call, and those with the table by value: each one's contract, what it binds outside at the values passed, that the caller has what it asks, and that it is known
 -- where the caller's environment has its routine.
 --     load, store              between the two forms of the table: load's slice is lent for a lifetime ν of the call, store's is given up for good
---     table-of, result-of      the parts of what a core gives back.        out-of      the same put together. A walk goes into no field: it calls these
+--     table-of, result-of      the parts of what a core gives back.        out-of      the same put together, by `Pairing`'s contract. A walk goes into no field: it calls these
 -- Assumes nothing; the laws under a model assume `Given`.
 use mathlib.Core.Path.{_≡_}
 use Prim.Native.Nat.{ℕ}
@@ -27,7 +27,6 @@ use denote.Steps.{owned, nothing}
 use denote.Triple.Spec.{tripleOf}
 use denote.Triple.Statement.{Contract, Triple}
 use denote.Triple.Table.{cited}
-use Rattle.cores.proofs.outs.out_of as out-of
 use Rattle.cores.proofs.outs.out_of.Met as out-of-met
 use Rattle.cores.proofs.outs.out_of.Symbol as out-of-def
 use Rattle.cores.proofs.outs.result_of as result-of
@@ -39,6 +38,7 @@ use Rattle.cores.proofs.outs.table_of.Symbol as table-of-def
 use Rattle.tables_model.specs.declared.Scope.{Scope}
 use Rattle.store.proofs.Elem.{R, Tb, tvals, t-made}
 use Rattle.store.proofs.Locals.{Y, O, sv}
+use Rattle.store.proofs.Pairing.{OutOf, sixty-four}
 use Rattle.store.proofs.Plain.{Of}
 use Rattle.store.proofs.table.load as load
 use Rattle.store.proofs.table.load.Met as load-met
@@ -75,9 +75,6 @@ module _ {M : Type 1} (𝓤 : URA M) (H : Heap 𝓤) (A : Atoms 𝓤) (mem : Mem
   abbrev pub ResultOf : Contract 𝓤
   ResultOf = tripleOf 𝓤 H A result-of.signature (result-of.spec 𝓤 H A mem run)
 
-  abbrev pub OutOf : Contract 𝓤
-  OutOf = tripleOf 𝓤 H A out-of.signature (out-of.spec 𝓤 H A mem run)
-
   abbrev pub to-load : ℕ → RefT (List Scope) → Load .Ghost
   to-load ν s = (((ν ∷ [], tt), (fullShare, tt), tt, (s, tt), (sv s ∷ [], tt)), tt)
 
@@ -90,25 +87,19 @@ module _ {M : Type 1} (𝓤 : URA M) (H : Heap 𝓤) (A : Atoms 𝓤) (mem : Mem
   abbrev pub to-result-of : Of O → Val → ResultOf .Ghost
   to-result-of o w = ((tt, tt, tt, (o, tt), (w ∷ [], tt)), tt)
 
-  abbrev pub to-out-of : Of Y → Val → List Scope → OutOf .Ghost
-  to-out-of r w t = ((tt, tt, tt, (r, (t, tt)), (w ∷ [], (tvals t, tt))), tt)
-
   module _ (W : Given 𝓤 H A) where
     pub goes-load : (ν : ℕ) (s : RefT (List Scope)) → ent 𝓤 (sep 𝓤 (A .lft (ν ∷ []) fullShare) (sem 𝓤 H A (ShrSlice (named 0) (ν ∷ []) R .own s (sv s ∷ [])))) (Load .pre (to-load ν s))
     goes-load ν s = qed W (‵ (flft (ν ∷ []) fullShare) ∷ ‵ (ShrSlice (named 0) (ν ∷ []) R .own s (sv s ∷ [])) ∷ []) ∵ nothing ! $ move ! (1 ∷ 0 ∷ []) $ join ! $ nothing ! $ move ! (2 ∷ 0 ∷ []) $ fjoin ! $ move ! (1 ∷ 0 ∷ []) $ join ! $ frame ! $ done !
 
-    pub goes-store : (κ : Lft) (q : Share) (s : RefT (List Scope)) (t : List Scope) → Is Tb t (tvals t) → ent 𝓤 (sep 𝓤 (A .lft κ q) (sem 𝓤 H A (MutSlice (named 3) κ R .own s (sv s ∷ [])))) (Store .pre (to-store κ q s t))
+    pub goes-store : (κ : Lft) (q : Share) (s : RefT (List Scope)) (t : List Scope) → Is (Tb 64) t (tvals t) → ent 𝓤 (sep 𝓤 (A .lft κ q) (sem 𝓤 H A (MutSlice (named 3) κ R .own s (sv s ∷ [])))) (Store .pre (to-store κ q s t))
     goes-store κ q s t is =
-        qed W (‵ (flft κ q) ∷ ‵ (MutSlice (named 3) κ R .own s (sv s ∷ [])) ∷ []) ∵ nothing ! $ move ! (1 ∷ 0 ∷ []) $ join ! $ nothing ! $ owned ! Tb (Is Tb) (t-made 𝓤 H A W) t (tvals t) is $ fjoin ! $ move ! (2 ∷ 0 ∷ []) $ fjoin ! $ move ! (1 ∷ 0 ∷ []) $ join ! $ frame ! $ done !
+        qed W (‵ (flft κ q) ∷ ‵ (MutSlice (named 3) κ R .own s (sv s ∷ [])) ∷ []) ∵ nothing ! $ move ! (1 ∷ 0 ∷ []) $ join ! $ nothing ! $ owned ! (Tb 64) (Is (Tb 64)) (t-made 𝓤 H A W 64) t (tvals t) is $ fjoin ! $ move ! (2 ∷ 0 ∷ []) $ fjoin ! $ move ! (1 ∷ 0 ∷ []) $ join ! $ frame ! $ done !
 
     pub goes-table-of : (o : Of O) (w : Val) → Is (O .row) o (w ∷ []) → ent 𝓤 (emp 𝓤) (TableOf .pre (to-table-of o w))
     goes-table-of o w is = qed W [] ∵ nothing ! $ owned ! (O .row) (Is (O .row)) (O .makes 𝓤 H A) o (w ∷ []) is $ fjoin ! $ nothing ! $ join ! $ frame ! $ done !
 
     pub goes-result-of : (o : Of O) (w : Val) → Is (O .row) o (w ∷ []) → ent 𝓤 (emp 𝓤) (ResultOf .pre (to-result-of o w))
     goes-result-of o w is = qed W [] ∵ nothing ! $ owned ! (O .row) (Is (O .row)) (O .makes 𝓤 H A) o (w ∷ []) is $ fjoin ! $ nothing ! $ join ! $ frame ! $ done !
-
-    pub goes-out-of : (r : Of Y) (w : Val) (t : List Scope) → Is (Y .row) r (w ∷ []) → Is Tb t (tvals t) → ent 𝓤 (emp 𝓤) (OutOf .pre (to-out-of r w t))
-    goes-out-of r w t is t-is = qed W [] ∵ nothing ! $ owned ! Tb (Is Tb) (t-made 𝓤 H A W) t (tvals t) t-is $ fjoin ! $ owned ! (Y .row) (Is (Y .row)) (Y .makes 𝓤 H A) r (w ∷ []) is $ fjoin ! $ nothing ! $ join ! $ frame ! $ done !
 
 module _ {M : Type 1} (𝓤 : URA M) (H : Heap 𝓤) (𝓜 : Model 𝓤 H) (𝓖 : GhostRules 𝓤 H) (𝓡 : Running 𝓤 H 𝓜) (γ : Env) where
   pub known-load : γ load-name ≡ load-def.routine → Triple 𝓤 (tables 𝓤 H 𝓜 𝓡 γ .C load-name) (Load 𝓤 H (𝓖 .A) (𝓜 .mem) (𝓡 .run))
@@ -123,5 +114,5 @@ module _ {M : Type 1} (𝓤 : URA M) (H : Heap 𝓤) (𝓜 : Model 𝓤 H) (𝓖
   pub known-result-of : γ result-of-name ≡ result-of-def.routine → Triple 𝓤 (tables 𝓤 H 𝓜 𝓡 γ .C result-of-name) (ResultOf 𝓤 H (𝓖 .A) (𝓜 .mem) (𝓡 .run))
   known-result-of is = cited 𝓤 H (ResultOf 𝓤 H (𝓖 .A) (𝓜 .mem) (𝓡 .run)) 𝓜 𝓡 γ result-of-name result-of-def.routine is (result-of-met.met 𝓤 H 𝓜 𝓖 𝓡)
 
-  pub known-out-of : γ out-of-name ≡ out-of-def.routine → Triple 𝓤 (tables 𝓤 H 𝓜 𝓡 γ .C out-of-name) (OutOf 𝓤 H (𝓖 .A) (𝓜 .mem) (𝓡 .run))
-  known-out-of is = cited 𝓤 H (OutOf 𝓤 H (𝓖 .A) (𝓜 .mem) (𝓡 .run)) 𝓜 𝓡 γ out-of-name out-of-def.routine is (out-of-met.met 𝓤 H 𝓜 𝓖 𝓡)
+  pub known-out-of : γ out-of-name ≡ out-of-def.routine → Triple 𝓤 (tables 𝓤 H 𝓜 𝓡 γ .C out-of-name) (OutOf sixty-four 𝓤 H (𝓖 .A))
+  known-out-of is = cited 𝓤 H (OutOf sixty-four 𝓤 H (𝓖 .A)) 𝓜 𝓡 γ out-of-name out-of-def.routine is (out-of-met.met 𝓤 H 𝓜 𝓖 𝓡)

@@ -60,9 +60,9 @@ module _ {M : Type 1} (𝓤 : URA M) (H : Heap 𝓤) (A : Atoms 𝓤) (W : Given
   pub typed : (x : Scope) (v : Val) → Is R x (v ∷ []) → T (hasTy S′.mir v) × WT v
   typed x v is = LL.lawful S.the-type S′.the-laws 𝓤 H A W .typed x (v ∷ []) is .0
 
--- ---- the whole table, by value
-abbrev pub Tb : RattleType
-Tb = Array R 64
+-- ---- a table of n entries, by value
+abbrev pub Tb : ℕ → RattleType
+Tb n = Array R n
 
 abbrev pub tvals : List Scope → List Val
 tvals = array-vals vals
@@ -70,19 +70,19 @@ tvals = array-vals vals
 abbrev pub tval : List Scope → Val
 tval xs = only (tvals xs)
 
-pub t-tells : Tells Tb (Is Tb) tvals
-t-tells = array-tells R vals tells 64
+pub t-tells : (n : ℕ) → Tells (Tb n) (Is (Tb n)) tvals
+t-tells = array-tells R vals tells
 
-pub t-length : (xs : List Scope) (vs : List Val) → Is Tb xs vs → length xs ≡ 64
-t-length xs vs p = p .1 .0 .1
+pub t-length : (n : ℕ) (xs : List Scope) (vs : List Val) → Is (Tb n) xs vs → length xs ≡ n
+t-length n xs vs p = p .1 .0 .1
 
-module _ {M : Type 1} (𝓤 : URA M) (H : Heap 𝓤) (A : Atoms 𝓤) (W : Given 𝓤 H A) where
-  pub t-made : Makes 𝓤 H A Tb (Is Tb)
-  t-made = array-makes 𝓤 H A W R (made 𝓤 H A W) 64
+module _ {M : Type 1} (𝓤 : URA M) (H : Heap 𝓤) (A : Atoms 𝓤) (W : Given 𝓤 H A) (n : ℕ) where
+  pub t-made : Makes 𝓤 H A (Tb n) (Is (Tb n))
+  t-made = array-makes 𝓤 H A W R (made 𝓤 H A W) n
 
-  pub t-typed : (xs : List Scope) (v : Val) → Is Tb xs (v ∷ []) → T (hasTy (tyArray S′.mir 64) v) × WT v
-  t-typed xs v is = array-lawful 𝓤 H A W R (LL.lawful S.the-type S′.the-laws 𝓤 H A W) 64 .typed xs (v ∷ []) is .0
+  pub t-typed : (xs : List Scope) (v : Val) → Is (Tb n) xs (v ∷ []) → T (hasTy (tyArray S′.mir n) v) × WT v
+  t-typed xs v is = array-lawful 𝓤 H A W R (LL.lawful S.the-type S′.the-laws 𝓤 H A W) n .typed xs (v ∷ []) is .0
 
 -- a table that a call gave, at its own machine value
-pub t-known : (r l : List Scope) (w : Val) → r ≡ l → Is Tb r (w ∷ []) → Is Tb l (tvals l)
-t-known r l w e is = subst (λ (m : List Scope). Is Tb m (tvals m)) e (subst (Is Tb r) (t-tells r (w ∷ []) is) is)
+pub t-known : (n : ℕ) (r l : List Scope) (w : Val) → r ≡ l → Is (Tb n) r (w ∷ []) → Is (Tb n) l (tvals l)
+t-known n r l w e is = subst (λ (m : List Scope). Is (Tb n) m (tvals m)) e (subst (Is (Tb n) r) (t-tells n r (w ∷ []) is) is)

@@ -7,6 +7,7 @@ pub mod Ends
 pub mod Fill
 pub mod Local
 pub mod Locals
+pub mod Pairing
 pub mod Plain
 pub mod Promised
 pub mod Shared

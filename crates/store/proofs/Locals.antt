@@ -55,15 +55,15 @@ byte = tyInt w8
 abbrev pub cell : Ty
 cell = tyInt w32
 
--- an entry of the table, by value and behind a reference; the table by value
+-- an entry of the table, by value and behind a reference; a table of n entries by value
 abbrev pub entry : Ty
 entry = Scope-laws.mir
 
 abbrev pub entries : Ty
 entries = pointee (R .written)
 
-abbrev pub table : Ty
-table = tyArray entry 64
+abbrev pub table : ℕ → Ty
+table = tyArray entry
 
 abbrev pub slice : Lifetime → Mutability → Ty → Ty
 slice ℓ m τ = sliceTy (tyRef ℓ m τ)

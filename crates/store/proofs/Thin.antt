@@ -83,7 +83,7 @@ module _ (X : Plain) (P : Of X → World → Returned → Type 0) where
     signature = record {
       lifetimes = 3;
       outlives = [];
-      params = plain (λ _. K .row) ∷ SliceRefMutOf (0 ∷ []) tt (plain (λ _. u8)) (λ _. tt) ∷ SliceRefMutOf (1 ∷ []) tt (plain (λ _. u8)) (λ _. tt) ∷ SliceRefMutOf (2 ∷ []) tt (plain (λ _. u8)) (λ _. tt) ∷ plain (λ _. usize) ∷ plain (λ _. Tb) ∷ plain (λ _. X .row) ∷ [];
+      params = plain (λ _. K .row) ∷ SliceRefMutOf (0 ∷ []) tt (plain (λ _. u8)) (λ _. tt) ∷ SliceRefMutOf (1 ∷ []) tt (plain (λ _. u8)) (λ _. tt) ∷ SliceRefMutOf (2 ∷ []) tt (plain (λ _. u8)) (λ _. tt) ∷ plain (λ _. usize) ∷ plain (λ _. Tb 64) ∷ plain (λ _. X .row) ∷ [];
       result = plain (λ _. O .row);
     };
     kept = (yes, (yes, (yes, (yes, (yes, (yes, (yes, tt)))))));
@@ -115,11 +115,11 @@ module _ (X : Plain) (P : Of X → World → Returned → Type 0) where
       locals =
           local (lone (Y .row .mir)) valueLocal ∷ local (lone (K .row .mir)) valueLocal ∷ local (slice (named 0) mut byte) valueLocal ∷
           local (slice (named 1) mut byte) valueLocal ∷ local (slice (named 2) mut byte) valueLocal ∷ local (slice (named 3) mut entries) valueLocal ∷
-          local (lone (X .row .mir)) valueLocal ∷ local word valueLocal ∷ local table valueLocal ∷ local (lone (O .row .mir)) valueLocal ∷
+          local (lone (X .row .mir)) valueLocal ∷ local word valueLocal ∷ local (table 64) valueLocal ∷ local (lone (O .row .mir)) valueLocal ∷
           local (tyRef erased imm entries) valueLocal ∷ local (slice erased imm entries) valueLocal ∷ local (tyRef erased mut byte) valueLocal ∷
           local (slice erased mut byte) valueLocal ∷ local (tyRef erased mut byte) valueLocal ∷ local (slice erased mut byte) valueLocal ∷
           local (tyRef erased mut byte) valueLocal ∷ local (slice erased mut byte) valueLocal ∷ local tyUnit valueLocal ∷ local (tyRef erased mut entries) valueLocal ∷
-          local (slice erased mut entries) valueLocal ∷ local table valueLocal ∷ [];
+          local (slice erased mut entries) valueLocal ∷ local (table 64) valueLocal ∷ [];
       body =
           (seq (assign (place 7 []) (rvOpd (copy (place 5 (field 1 ∷ [])))))
           (seq (assign (place 10 []) (addrOf (place 5 (field 0 ∷ deref entry ∷ []))))
@@ -200,7 +200,7 @@ module _ (X : Plain) (P : Of X → World → Returned → Type 0) where
       to-core = ((κs-core, (q₀, (q₁, (q₂, tt))), tt, core-args, core-vals), tt)
 
       abbrev core-owns : Fml
-      core-owns = owns (K .row ∷ MutSlice (named 0) κ₀ u8 ∷ MutSlice (named 1) κ₁ u8 ∷ MutSlice (named 2) κ₂ u8 ∷ usize ∷ Tb ∷ X .row ∷ []) core-args core-vals
+      core-owns = owns (K .row ∷ MutSlice (named 0) κ₀ u8 ∷ MutSlice (named 1) κ₁ u8 ∷ MutSlice (named 2) κ₂ u8 ∷ usize ∷ Tb 64 ∷ X .row ∷ []) core-args core-vals
 
       goes-core : ent 𝓤 (sep 𝓤 (sep 𝓤 (A .lft κ₀ q₀) (sep 𝓤 (A .lft κ₁ q₁) (sep 𝓤 (A .lft κ₂ q₂) (sem 𝓤 H A ftrue)))) (sem 𝓤 H A core-owns)) (Core 𝓤 H A .pre to-core)
       goes-core = qed W ((‵ (flft κ₀ q₀) ⊛ (‵ (flft κ₁ q₁) ⊛ (‵ (flft κ₂ q₂) ⊛ ‵ ftrue))) ∷ ‵ core-owns ∷ []) ∵ join ! $ frame ! $ done !
@@ -224,7 +224,7 @@ module _ (X : Plain) (P : Of X → World → Returned → Type 0) where
             use2 W (later (some (λ (δ : GName). ‵ (ShrSlice (named 0) (ν ∷ []) R .own (as-shared δ) (sv ss ∷ [])) ⊛ ‵ (LentShared R κ₃ (ν ∷ []) q₃ (ss .name) (ss .ptr .0) (ss .ptr .1) ys)))) (lends-shared R κ₃ (ν ∷ []) q₃ (ss .name) (ss .ptr .0) (ss .ptr .1) 𝓤 H A W (named 3) (named 0) ys) $ await ! tt $ pick ! (λ δ. split ! $
             move ! (2 ∷ 0 ∷ []) $ use2 W (raw (Load 𝓤 H A mem run .pre (to-load 𝓤 H A mem run ν (as-shared δ)))) (goes-load 𝓤 H A mem run W ν (as-shared δ)) $
             calls-known ! (fmOf 𝓤 H (W .laws) 𝓣) load′.ended (load′.clauses 𝓤 H A mem run) known-load (to-load 𝓤 H A mem run ν (as-shared δ)) (λ r. r ≡ t) (λ r z. id⊢ 𝓤 _) (and-then ! (load ! (from ! (stop !)) (look ! 28 refl)) (no-more !)) (λ w₁ r₁ e₁ is₁. drop ! $
-            land ! (from ! (stop !)) (init ! 34 refl (t-typed 𝓤 H A W r₁ w₁ is₁)) $ rewrite ! 34 (λ (us : List Val). ‵ (fat fullShare table l₈ 0 (only us))) (t-tells r₁ (w₁ ∷ []) is₁ ∙ ap tvals e₁) refl $
+            land ! (from ! (stop !)) (init ! 34 refl (t-typed 𝓤 H A W 64 r₁ w₁ is₁)) $ rewrite ! 34 (λ (us : List Val). ‵ (fat fullShare (table 64) l₈ 0 (only us))) (t-tells 64 r₁ (w₁ ∷ []) is₁ ∙ ap tvals e₁) refl $
             use1 W (‵ (flft (ν ∷ []) fullShare) ⊛ ‵ ftrue) (id⊢ 𝓤 _) $ split ! $ lft-end ! tt $ move ! (0 ∷ 2 ∷ []) $
             use2 W (later (‵ (MutSlice (named 3) κ₃ R .own ss (sv ss ∷ [])) ⊛ ‵ (flft κ₃ q₃))) (shared-back R κ₃ (ν ∷ []) q₃ (ss .name) (ss .ptr .0) (ss .ptr .1) 𝓤 H A W (named 3) (named 0) ys ss-room) $ await ! tt $ split ! $ move ! (2 ∷ []) $ drop ! $
             -- [what scopes owns; its token; the other tokens; what copy, charts, log own; _21 at 8; …]: they are copied, and given to the core for good
@@ -235,7 +235,7 @@ module _ (X : Plain) (P : Of X → World → Returned → Type 0) where
             assigns ! (addr ! (from ! (fld ! refl (hop ! (look-in ! 42 (sub ! 0 refl (whole !))) (stop !))))) (from ! (stop !)) (init ! 18 refl (tt, tt)) $
             assigns ! (agg ! (and-then ! (load ! (from ! (stop !)) (look ! 18 refl)) (and-then ! (load ! (from ! (fld ! refl (stop !))) (look-in ! 42 (sub ! 1 refl (whole !)))) (no-more !)))) (from ! (stop !)) (init ! 16 refl (tt, (tt, (record { fits = s₂-room .0 }, tt)))) $
             nothing ! $ owned ! (X .row) (Is (X .row)) (X .makes 𝓤 H A) a (xv ∷ []) a-is $ fjoin ! $
-            owned ! Tb (Is Tb) (t-made 𝓤 H A W) t (tvals t) (t-known r₁ t w₁ e₁ is₁) $ fjoin ! $ owned ! usize (Is usize) (uint-makes 𝓤 H A W w64) (length ys) (vint w64 (length ys) ∷ []) (refl, ss-room .0) $ fjoin ! $
+            owned ! (Tb 64) (Is (Tb 64)) (t-made 𝓤 H A W 64) t (tvals t) (t-known 64 r₁ t w₁ e₁ is₁) $ fjoin ! $ owned ! usize (Is usize) (uint-makes 𝓤 H A W w64) (length ys) (vint w64 (length ys) ∷ []) (refl, ss-room .0) $ fjoin ! $
             move ! (6 ∷ 0 ∷ []) $ fjoin ! $ move ! (6 ∷ 0 ∷ []) $ fjoin ! $ move ! (6 ∷ 0 ∷ []) $ fjoin ! $ owned ! (K .row) (Is (K .row)) (K .makes 𝓤 H A) k (kv ∷ []) k-is $ fjoin ! $
             nothing ! $ move ! (4 ∷ 0 ∷ []) $ join ! $ move ! (4 ∷ 0 ∷ []) $ join ! $ move ! (4 ∷ 0 ∷ []) $ join ! $ use2 W (raw (Core 𝓤 H A .pre to-core)) goes-core $
             -- [what the core asks; what scopes owns; its token; _21 at 3; …]
@@ -253,9 +253,9 @@ module _ (X : Plain) (P : Of X → World → Returned → Type 0) where
             assigns ! (agg ! (and-then ! (load ! (from ! (stop !)) (look ! 10 refl)) (and-then ! (load ! (from ! (fld ! refl (stop !))) (look-in ! 38 (sub ! 1 refl (whole !)))) (no-more !)))) (from ! (stop !)) (init ! 8 refl (tt, (tt, (record { fits = ss-room .0 }, tt)))) $
             use0 W (raw (TableOf 𝓤 H A mem run .pre (to-table-of 𝓤 H A mem run r₂ w₂))) (goes-table-of 𝓤 H A mem run W r₂ w₂ is₂) $
             calls-known ! (fmOf 𝓤 H (W .laws) 𝓣) table-of.ended (table-of.clauses 𝓤 H A mem run) known-table-of (to-table-of 𝓤 H A mem run r₂ w₂) (λ r. r ≡ r₂ .table) (λ r z. id⊢ 𝓤 _) (and-then ! (load ! (from ! (stop !)) (look ! 31 refl)) (no-more !)) (λ w₃ r₃ e₃ is₃. drop ! $ drop ! $
-            land ! (from ! (stop !)) (init ! 6 refl (t-typed 𝓤 H A W r₃ w₃ is₃)) $ rewrite ! 6 (λ (us : List Val). ‵ (fat fullShare table l₂₁ 0 (only us))) (t-tells r₃ (w₃ ∷ []) is₃ ∙ ap tvals e₃) refl $
+            land ! (from ! (stop !)) (init ! 6 refl (t-typed 𝓤 H A W 64 r₃ w₃ is₃)) $ rewrite ! 6 (λ (us : List Val). ‵ (fat fullShare (table 64) l₂₁ 0 (only us))) (t-tells 64 r₃ (w₃ ∷ []) is₃ ∙ ap tvals e₃) refl $
             -- the table is stored: the borrow is given up for good
-            move ! (5 ∷ 4 ∷ []) $ use2 W (raw (Store 𝓤 H A mem run .pre (to-store 𝓤 H A mem run κ₃ q₃ ss (r₂ .table)))) (goes-store 𝓤 H A mem run W κ₃ q₃ ss (r₂ .table) (t-known r₃ (r₂ .table) w₃ e₃ is₃)) $
+            move ! (5 ∷ 4 ∷ []) $ use2 W (raw (Store 𝓤 H A mem run .pre (to-store 𝓤 H A mem run κ₃ q₃ ss (r₂ .table)))) (goes-store 𝓤 H A mem run W κ₃ q₃ ss (r₂ .table) (t-known 64 r₃ (r₂ .table) w₃ e₃ is₃)) $
             calls-at ! (fmOf 𝓤 H (W .laws) 𝓣) (Store 𝓤 H A mem run) known-store (to-store 𝓤 H A mem run κ₃ q₃ ss (r₂ .table)) (and-then ! (load ! (from ! (stop !)) (look ! 7 refl)) (and-then ! (load ! (from ! (stop !)) (look ! 5 refl)) (no-more !))) (λ w₄.
             use1 W (later (some (λ (r : Unit {0}). ((‵ (flft κ₃ q₃) ⊛ ‵ ftrue) ⊛ ‵ (Nothing .own r (w₄ ∷ []))) ⊛ raw (ensured 𝓤 H A store′.ended (store′.clauses 𝓤 H A mem run) (κ₃, tt) (ss, (r₂ .table, tt)) tt r)))) (id⊢ 𝓤 _) $ await ! tt $ pick ! (λ r₄.
             split ! $ move ! (1 ∷ []) $ use1 W (some (λ (us : List Scope × (Unit {0} × Unit {0})). ‵ (lasts store′.ended (κ₃, tt) (ss, (r₂ .table, tt)) us) ⊛ raw (fact 𝓤 (us .0 ≡ stored ys (r₂ .table))))) (id⊢ 𝓤 _) $ pick ! (λ us.

@@ -5,7 +5,8 @@ use denote.Triple.Spec.{tripleOf}
 use denote.Triple.Table.{entered, cited}
 use Rattle.state.specs.Functions.{Formats}
 use Rattle.store.proofs.BridgeCells.{bridge-meets}
-use Rattle.store.proofs.Callees.{known-out-of}
+use Rattle.store.proofs.Callees.{out-of-name, known-out-of}
+use Rattle.store.proofs.Pairing.{sixty-four}
 use Rattle.store.proofs.ThinCells.{Call}
 use Rattle.store.proofs.bridges.format_on as this
 use Rattle.store.proofs.bridges.format_on.Code as code
@@ -18,6 +19,6 @@ pub format-on-spec : {M : Type 1} → stated.statement M
 unfolding code.routine tablesOf
 format-on-spec 𝓤 H 𝓜 𝓖 𝓡 =
     entered 𝓤 H (tripleOf 𝓤 H (𝓖 .A) this.signature (this.spec 𝓤 H (𝓖 .A) (𝓜 .mem) (𝓡 .run))) (tables 𝓤 H 𝓜 𝓡 code.env .C) (tables 𝓤 H 𝓜 𝓡 code.env .Λ) key code.function (code.unfolded 𝓤 H 𝓜 𝓡)
-    (bridge-meets Formats call-def.name 𝓤 H (𝓖 .A) (givenOf 𝓤 H 𝓜 𝓖) (𝓜 .mem) (𝓡 .run) (tablesOf 𝓤 H 𝓜 (tables 𝓤 H 𝓜 𝓡 code.env))
+    (bridge-meets Formats sixty-four call-def.name out-of-name 𝓤 H (𝓖 .A) (givenOf 𝓤 H 𝓜 𝓖) (tablesOf 𝓤 H 𝓜 (tables 𝓤 H 𝓜 𝓡 code.env))
     (cited 𝓤 H (Call Formats 𝓤 H (𝓖 .A)) 𝓜 𝓡 code.env call-def.name call-def.routine code.calls-store·public·format (call-met.met 𝓤 H 𝓜 𝓖 𝓡))
     (known-out-of 𝓤 H 𝓜 𝓖 𝓡 code.env code.calls-cores·outs·out-of))

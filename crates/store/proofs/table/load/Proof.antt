@@ -111,11 +111,11 @@ module _ {M : Type 1} (𝓤 : URA M) (H : Heap 𝓤) (A : Atoms 𝓤) (W : Given
   long : (i : ℕ) → i ≤ n → length (f i) ≡ 64
   long i l = part-length ys blanks i (le-trans l (limit-le (length ys))) (subst (λ (k : ℕ). i ≤ k) (sym (length-replicate 64 zeroScope)) (le-trans l (limit-64 (length ys)))) ∙ length-replicate 64 zeroScope
 
-  exits : (i : Upto) → i .0 ≡ n → Is Tb (f (i .0)) (tvals (f (i .0))) → ent 𝓤 (⋆ 𝓤 H A (‵ (flft κ q) ∷ ‵ (ShrSlice (named 0) κ R .own x (sv ∷ [])) ∷ [])) (Post (tval (f (i .0))))
+  exits : (i : Upto) → i .0 ≡ n → Is (Tb 64) (f (i .0)) (tvals (f (i .0))) → ent 𝓤 (⋆ 𝓤 H A (‵ (flft κ q) ∷ ‵ (ShrSlice (named 0) κ R .own x (sv ∷ [])) ∷ [])) (Post (tval (f (i .0))))
   exits i e is =
       qed W (‵ (flft κ q) ∷ ‵ (ShrSlice (named 0) κ R .own x (sv ∷ [])) ∷ []) ∵
       suffices ! _ (ends-at 𝓤 H A load′.ended stayed (load′.clauses 𝓤 H A mem run) W (((κ, tt), (q, tt), tt, (x, tt), at), tt) (tval (f (i .0))) (f (i .0)) (tt, tt) (tt, tt)) $ says ! (ap f e ∙ load-end ys) $
-      nothing ! $ move ! (1 ∷ 0 ∷ []) $ join ! $ nothing ! $ move ! (2 ∷ 0 ∷ []) $ fjoin ! $ move ! (1 ∷ 0 ∷ []) $ frame ! $ frame ! $ owned ! Tb (Is Tb) (t-made 𝓤 H A W) (f (i .0)) (tvals (f (i .0))) is $ done !
+      nothing ! $ move ! (1 ∷ 0 ∷ []) $ join ! $ nothing ! $ move ! (2 ∷ 0 ∷ []) $ fjoin ! $ move ! (1 ∷ 0 ∷ []) $ frame ! $ frame ! $ owned ! (Tb 64) (Is (Tb 64)) (t-made 𝓤 H A W 64) (f (i .0)) (tvals (f (i .0))) is $ done !
 
   -- what each callee's triple binds outside, and that the caller has what it asks
   abbrev to-limit : Limit 𝓤 H A mem run .Ghost
@@ -205,8 +205,8 @@ module _ {M : Type 1} (𝓤 : URA M) (H : Heap 𝓤) (A : Atoms 𝓤) (W : Given
       ends i over =
           assigns ! (bin ! (load ! (from ! (stop !)) (look ! 26 refl)) (load ! (from ! (stop !)) (look ! 29 refl)) tt) (from ! (stop !)) (init ! 20 refl (tt, tt)) $
           rewrite ! 20 (λ (t : Bool). ‵ (fat fullShare tyBool l₇ 0 (vbool t))) (le-ltb (i .0) n over) refl $ leaves-loop ! (load ! (from ! (stop !)) (look ! 20 refl)) $ exec ! C Λ En mir.t-7 (atRet En Post) $
-          move ! (1 ∷ []) $ use1 W (given (Is Tb (f (i .0)) (tvals (f (i .0)))) (‵ (fat fullShare table l₃ 0 (tval (f (i .0)))))) (local-whole R tt vals tells 64 𝓤 H A W l₃ (f (i .0)) (long (i .0) (i .1))) $ learn ! (λ is.
-          assigns ! (of-opd ! (load ! (from ! (stop !)) (look ! 0 refl))) (from ! (stop !)) (init ! 33 refl (t-typed 𝓤 H A W (f (i .0)) (tval (f (i .0))) is)) $
+          move ! (1 ∷ []) $ use1 W (given (Is (Tb 64) (f (i .0)) (tvals (f (i .0)))) (‵ (fat fullShare table l₃ 0 (tval (f (i .0)))))) (local-whole R tt vals tells 64 𝓤 H A W l₃ (f (i .0)) (long (i .0) (i .1))) $ learn ! (λ is.
+          assigns ! (of-opd ! (load ! (from ! (stop !)) (look ! 0 refl))) (from ! (stop !)) (init ! 33 refl (t-typed 𝓤 H A W 64 (f (i .0)) (tval (f (i .0))) is)) $
           move ! (1 ∷ 2 ∷ []) $ shuts-slice ! tt R q′ ys b o $
           returns ! (look ! 32 refl) $ forget ! 1 refl $ forget ! 19 refl $ forget ! 25 refl $ forget ! 28 refl $ forget ! 30 refl $ forget ! 32 refl $
           move ! (32 ∷ 33 ∷ []) $ free1 ! $ move ! (30 ∷ 31 ∷ []) $ free1 ! $ move ! (28 ∷ 29 ∷ []) $ free1 ! $ move ! (1 ∷ 27 ∷ []) $ free1 ! $ move ! (24 ∷ 25 ∷ []) $ free1 ! $ move ! (22 ∷ 23 ∷ []) $ free1 ! $ move ! (20 ∷ 21 ∷ []) $ free1 ! $ move ! (18 ∷ 19 ∷ []) $ free1 ! $ move ! (16 ∷ 17 ∷ []) $ free1 ! $ move ! (14 ∷ 15 ∷ []) $ free1 ! $ move ! (12 ∷ 13 ∷ []) $ free1 ! $ move ! (10 ∷ 11 ∷ []) $ free1 ! $ move ! (8 ∷ 9 ∷ []) $ free1 ! $ move ! (6 ∷ 7 ∷ []) $ free1 ! $ free0 ! $
@@ -231,13 +231,13 @@ module _ {M : Type 1} (𝓤 : URA M) (H : Heap 𝓤) (A : Atoms 𝓤) (W : Given
         land ! (from ! (stop !)) (init ! 22 refl (uint-lawful 𝓤 H A W w64 .typed r _ is .0)) $ rewrite ! 22 (λ (u : Val). ‵ (fat fullShare word l₂ 0 u)) (ap only (is .0) ∙ ap (vint w64) r-is) refl $ forget ! 16 refl $
         use0 W (raw (Blank 𝓤 H A mem run .pre to-blank)) goes-blank $
         calls-known ! (fmOf 𝓤 H (W .laws) 𝓣) blank.ended (blank.clauses 𝓤 H A mem run) known-blank to-blank (λ r. r ≡ f 0) (λ r z. id⊢ 𝓤 _) (no-more !) (λ w₁ r₁ r₁-is is₁. drop ! $ drop ! $
-        land ! (from ! (stop !)) (init ! 14 refl (t-typed 𝓤 H A W r₁ w₁ is₁)) $
-        assigns ! (of-opd ! (load ! (from ! (stop !)) (look ! 14 refl))) (from ! (stop !)) (init ! 20 refl (t-typed 𝓤 H A W r₁ w₁ is₁)) $ forget ! 14 refl $
+        land ! (from ! (stop !)) (init ! 14 refl (t-typed 𝓤 H A W 64 r₁ w₁ is₁)) $
+        assigns ! (of-opd ! (load ! (from ! (stop !)) (look ! 14 refl))) (from ! (stop !)) (init ! 20 refl (t-typed 𝓤 H A W 64 r₁ w₁ is₁)) $ forget ! 14 refl $
         assigns ! (of-opd ! (lit ! tt)) (from ! (stop !)) (init ! 18 refl (tt, record { fits = lit< tt })) $
         move ! (29 ∷ []) $ fsplit ! $ fsplit ! $ move ! (1 ∷ []) $ fsplit ! $ move ! (32 ∷ []) $ split ! $ move ! (3 ∷ 0 ∷ []) $
         looks-slice ! tt R (Is R) (shows 𝓤 H A R) vals tells (copies 𝓤 H A W) ys b o (λ q′.
         -- the local's entries, apart
-        owned ! Tb (Is Tb) (t-made 𝓤 H A W) r₁ (w₁ ∷ []) is₁ $ move ! (28 ∷ 0 ∷ []) $ use2 W (‵ (row R fullShare r₁ l₃ 0)) (local-apart R tt vals tells 64 𝓤 H A W l₃ r₁ w₁) $
+        owned ! (Tb 64) (Is (Tb 64)) (t-made 𝓤 H A W 64) r₁ (w₁ ∷ []) is₁ $ move ! (28 ∷ 0 ∷ []) $ use2 W (‵ (row R fullShare r₁ l₃ 0)) (local-apart R tt vals tells 64 𝓤 H A W l₃ r₁ w₁) $
         rewrite ! 0 (λ (l : List Scope). ‵ (row R fullShare l l₃ 0)) r₁-is refl $ move ! (1 ∷ []) $ first ! $ blocks ! $
         loops ! 𝓣 Nearer Nearer-wf (At q′ l₀ l₁ l₂ l₃ l₄ l₅ l₆ l₇ l₈ l₉ l₁₀ l₁₁ l₁₂ l₁₃) (turns q′ l₀ l₁ l₂ l₃ l₄ l₅ l₆ l₇ l₈ l₉ l₁₀ l₁₁ l₁₂ l₁₃) (0, zero-le))))))))))))))))))
 

@@ -66,14 +66,14 @@ use Rattle.store.proofs.table.store.Code as code
 use Rattle.store.proofs.table.store.Code.Mir as mir
 
 abbrev stayed : Stays (store′.ended .signature .params) (store′.ended .kept)
-stayed = (stay-slice (0 ∷ []) tt (plain (λ _. R)), (stay-none (λ _. Tb) yes, tt))
+stayed = (stay-slice (0 ∷ []) tt (plain (λ _. R)), (stay-none (λ _. Tb 64) yes, tt))
 
 -- the contracts that the proof cites
 module _ {M : Type 1} (𝓤 : URA M) (H : Heap 𝓤) (A : Atoms 𝓤) (mem : Memory → SProp 𝓤) (run : Routine → Fun 𝓤) where
   abbrev Limit : Contract 𝓤
   Limit = tripleOf 𝓤 H A limit.signature (limit.spec 𝓤 H A mem run)
 
-module _ {M : Type 1} (𝓤 : URA M) (H : Heap 𝓤) (A : Atoms 𝓤) (W : Given 𝓤 H A) (mem : Memory → SProp 𝓤) (run : Routine → Fun 𝓤) (κ : Lft) (q : Share) (b o : ℕ) (γ : GName) (ys t : List Scope) (room : Room R (length ys)) (t-is : Is Tb t (tvals t)) where
+module _ {M : Type 1} (𝓤 : URA M) (H : Heap 𝓤) (A : Atoms 𝓤) (W : Given 𝓤 H A) (mem : Memory → SProp 𝓤) (run : Routine → Fun 𝓤) (κ : Lft) (q : Share) (b o : ℕ) (γ : GName) (ys t : List Scope) (room : Room R (length ys)) (t-is : Is (Tb 64) t (tvals t)) where
   abbrev x : List Scope → RefT (List Scope)
   x l = record { ptr = (b, o); name = γ; now = l }
 
@@ -109,14 +109,14 @@ module _ {M : Type 1} (𝓤 : URA M) (H : Heap 𝓤) (A : Atoms 𝓤) (W : Given
   Nearer-wf = InvImage·wf (λ (i : Upto). n - i .0) (Nat·lt-wfRel .wf)
 
   t-long : length t ≡ 64
-  t-long = t-length t (tvals t) t-is
+  t-long = t-length 64 t (tvals t) t-is
 
   long : (i : ℕ) → i ≤ n → length (f i) ≡ length ys
   long i l = part-length t ys i (le-trans l (subst (λ (k : ℕ). n ≤ k) (sym t-long) (limit-64 (length ys)))) (le-trans l (limit-le (length ys)))
 
-  exits : (i : Upto) → i .0 ≡ n → ent 𝓤 (⋆ 𝓤 H A (‵ (fobs γ (codedHoleys R .code (heres R (f (i .0))))) ∷ ‵ (fbor κ (Held R (length (f (i .0))) b o γ)) ∷ ‵ (flft κ q) ∷ ‵ (fsep (Tb .own t (tvals t)) ftrue) ∷ [])) (Post vunit)
+  exits : (i : Upto) → i .0 ≡ n → ent 𝓤 (⋆ 𝓤 H A (‵ (fobs γ (codedHoleys R .code (heres R (f (i .0))))) ∷ ‵ (fbor κ (Held R (length (f (i .0))) b o γ)) ∷ ‵ (flft κ q) ∷ ‵ (fsep (Tb 64 .own t (tvals t)) ftrue) ∷ [])) (Post vunit)
   exits i e =
-      qed W (‵ (fobs γ (codedHoleys R .code (heres R (f (i .0))))) ∷ ‵ (fbor κ (Held R (length (f (i .0))) b o γ)) ∷ ‵ (flft κ q) ∷ ‵ (fsep (Tb .own t (tvals t)) ftrue) ∷ []) ∵
+      qed W (‵ (fobs γ (codedHoleys R .code (heres R (f (i .0))))) ∷ ‵ (fbor κ (Held R (length (f (i .0))) b o γ)) ∷ ‵ (flft κ q) ∷ ‵ (fsep (Tb 64 .own t (tvals t)) ftrue) ∷ []) ∵
       suffices ! _ (ends-at 𝓤 H A store′.ended stayed (store′.clauses 𝓤 H A mem run) W (((κ, tt), (q, tt), tt, a, at), tt) vunit tt (f (i .0), (tt, tt)) (long (i .0) (i .1), (tt, tt))) $ says ! (ap f e ∙ store-end ys t t-long) $
       nothing ! $ move ! (3 ∷ 0 ∷ []) $ join ! $ frame ! $ fjoin ! $
       pureI ! (at-slice R (x (f (i .0))) (sv ∷ [])) (tt, (tt, tt)) (ap (λ (m : ℕ). sliceVal (b, o) m ∷ []) (sym (long (i .0) (i .1))), subst (Room R) (sym (long (i .0) (i .1))) room) $ fjoin ! $ fjoin ! $ frame ! $
@@ -151,7 +151,7 @@ module _ {M : Type 1} (𝓤 : URA M) (H : Heap 𝓤) (A : Atoms 𝓤) (W : Given
 
       -- the slice's entries, the borrow opened; the local's, apart; then the other locals, the last first: _13 at 8, .., _4 at 26, that _3 dies at 28, _2 at 29, _1 at 31, _0 at 33
       abbrev At : Upto → List (Item 𝓤)
-      At i = ‵ (row R fullShare (f (i .0)) b o) ∷ ‵ (row R fullShare t l₃ 0) ∷ ‵ (fobor κ q (Held R (length ys) b o γ)) ∷ ‵ (fobs γ (codedHoleys R .code (heres R ys))) ∷ ‵ (fauth γ (codedHoleys R .code (heres R ys))) ∷ ‵ ftrue ∷ ‵ (at-slice R (x ys) (sv ∷ [])) ∷ ‵ (fsep (Tb .own t (tvals t)) ftrue)
+      At i = ‵ (row R fullShare (f (i .0)) b o) ∷ ‵ (row R fullShare t l₃ 0) ∷ ‵ (fobor κ q (Held R (length ys) b o γ)) ∷ ‵ (fobs γ (codedHoleys R .code (heres R ys))) ∷ ‵ (fauth γ (codedHoleys R .code (heres R ys))) ∷ ‵ ftrue ∷ ‵ (at-slice R (x ys) (sv ∷ [])) ∷ ‵ (fsep (Tb 64 .own t (tvals t)) ftrue)
           ∷ ‵ (froom tyPtr l₁₃ 0) ∷ ‵ (fdies tyPtr l₁₃) ∷ ‵ (froom word l₁₂ 0) ∷ ‵ (fdies word l₁₂) ∷ ‵ (froom S′.mir l₁₁ 0) ∷ ‵ (fdies S′.mir l₁₁) ∷ ‵ (froom tyPtr l₁₀ 0) ∷ ‵ (fdies tyPtr l₁₀) ∷ ‵ (froom tyPtr l₉ 0) ∷ ‵ (fdies tyPtr l₉) ∷ ‵ (froom word l₈ 0) ∷ ‵ (fdies word l₈)
           ∷ ‵ (froom tyBool l₇ 0) ∷ ‵ (fdies tyBool l₇) ∷ ‵ (froom word l₆ 0) ∷ ‵ (fdies word l₆) ∷ ‵ (fat fullShare word l₅ 0 (vint w64 (i .0))) ∷ ‵ (fdies word l₅) ∷ ‵ (fat fullShare word l₄ 0 (vint w64 n)) ∷ ‵ (fdies word l₄) ∷ ‵ (fdies table l₃) ∷ ‵ (fat fullShare table l₂ 0 (tval t)) ∷ ‵ (fdies table l₂) ∷ ‵ (fat fullShare slice l₁ 0 sv) ∷ ‵ (fdies slice l₁) ∷ ‵ (froom tyUnit l₀ 0) ∷ ‵ (fdies tyUnit l₀) ∷ []
 
@@ -207,7 +207,7 @@ module _ {M : Type 1} (𝓤 : URA M) (H : Heap 𝓤) (A : Atoms 𝓤) (W : Given
           assigns ! (bin ! (load ! (from ! (stop !)) (look ! 24 refl)) (load ! (from ! (stop !)) (look ! 26 refl)) tt) (from ! (stop !)) (init ! 20 refl (tt, tt)) $
           rewrite ! 20 (λ (t′ : Bool). ‵ (fat fullShare tyBool l₇ 0 (vbool t′))) (le-ltb (i .0) n over) refl $ leaves-loop ! (load ! (from ! (stop !)) (look ! 20 refl)) $ exec ! C Λ En mir.t-6 (atRet En Post) $
           assigns ! (of-opd ! (unit-lit !)) (from ! (stop !)) (init ! 33 refl (tt, tt)) $
-          move ! (1 ∷ []) $ use1 W (given (Is Tb t (tvals t)) (‵ (fat fullShare table l₃ 0 (tval t)))) (local-whole R tt vals tells 64 𝓤 H A W l₃ t t-long) $ learn ! (λ _.
+          move ! (1 ∷ []) $ use1 W (given (Is (Tb 64) t (tvals t)) (‵ (fat fullShare table l₃ 0 (tval t)))) (local-whole R tt vals tells 64 𝓤 H A W l₃ t t-long) $ learn ! (λ _.
           move ! (1 ∷ 2 ∷ 3 ∷ 4 ∷ []) $ closes-slice ! tt R ys (f (i .0)) (long (i .0) (i .1)) b o $
           returns ! (look ! 32 refl) $ forget ! 3 refl $ forget ! 19 refl $ forget ! 23 refl $ forget ! 25 refl $ forget ! 28 refl $ forget ! 30 refl $ forget ! 32 refl $
           move ! (32 ∷ 33 ∷ []) $ free1 ! $ move ! (30 ∷ 31 ∷ []) $ free1 ! $ move ! (28 ∷ 29 ∷ []) $ free1 ! $ move ! (3 ∷ 27 ∷ []) $ free1 ! $ move ! (24 ∷ 25 ∷ []) $ free1 ! $ move ! (22 ∷ 23 ∷ []) $ free1 ! $ move ! (20 ∷ 21 ∷ []) $ free1 ! $ move ! (18 ∷ 19 ∷ []) $ free1 ! $ move ! (16 ∷ 17 ∷ []) $ free1 ! $ move ! (14 ∷ 15 ∷ []) $ free1 ! $ move ! (12 ∷ 13 ∷ []) $ free1 ! $ move ! (10 ∷ 11 ∷ []) $ free1 ! $ move ! (8 ∷ 9 ∷ []) $ free1 ! $ move ! (6 ∷ 7 ∷ []) $ free1 ! $ free0 ! $
@@ -222,11 +222,11 @@ module _ {M : Type 1} (𝓤 : URA M) (H : Heap 𝓤) (A : Atoms 𝓤) (W : Given
 
     walk : ent 𝓤 (onEntry 𝓤 H A store′.signature (κ, tt) (q, tt) a at) (WpFn 𝓤 H C Λ code.function (sv ∷ tval t ∷ []) Post)
     walk =
-        qed W ((‵ (flft κ q) ⊛ ‵ ftrue) ∷ ‵ (owns (MutSlice (named 0) κ R ∷ Tb ∷ []) a at) ∷ []) ∵ enter ! C Λ code.function (sv ∷ tval t ∷ []) _ $
+        qed W ((‵ (flft κ q) ⊛ ‵ ftrue) ∷ ‵ (owns (MutSlice (named 0) κ R ∷ Tb 64 ∷ []) a at) ∷ []) ∵ enter ! C Λ code.function (sv ∷ tval t ∷ []) _ $
         alloc1 ! (λ l₀. alloc1 ! (λ l₁. alloc1 ! (λ l₂. alloc1 ! (λ l₃. alloc1 ! (λ l₄. alloc1 ! (λ l₅. alloc1 ! (λ l₆. alloc1 ! (λ l₇. alloc1 ! (λ l₈. alloc1 ! (λ l₉. alloc1 ! (λ l₁₀. alloc1 ! (λ l₁₁. alloc1 ! (λ l₁₂. alloc1 ! (λ l₁₃. alloc0 ! $ params1 ! $
-        pass1 ! (init ! 24 refl (tt, (tt, (record { fits = room .0 }, tt)))) $ pass1 ! (init ! 22 refl (t-typed 𝓤 H A W t (tval t) t-is)) $ pass0 ! $
+        pass1 ! (init ! 24 refl (tt, (tt, (record { fits = room .0 }, tt)))) $ pass1 ! (init ! 22 refl (t-typed 𝓤 H A W 64 t (tval t) t-is)) $ pass0 ! $
         -- [_13; …; _0; …; the token; what s and t own]
-        assigns ! (of-opd ! (load ! (from ! (stop !)) (look ! 22 refl))) (from ! (stop !)) (init ! 20 refl (t-typed 𝓤 H A W t (tval t) t-is)) $
+        assigns ! (of-opd ! (load ! (from ! (stop !)) (look ! 22 refl))) (from ! (stop !)) (init ! 20 refl (t-typed 𝓤 H A W 64 t (tval t) t-is)) $
         assigns ! (of-opd ! (load ! (from ! (fld ! refl (stop !))) (look-in ! 24 (sub ! 1 refl (whole !))))) (from ! (stop !)) (init ! 14 refl (tt, record { fits = room .0 })) $
         use0 W (raw (Limit 𝓤 H A mem run .pre to-limit)) goes-limit $
         calls-known ! (fmOf 𝓤 H (W .laws) 𝓣) limit.ended (limit.clauses 𝓤 H A mem run) known-limit to-limit (λ r. r ≡ n) (λ r z. id⊢ 𝓤 _) (and-then ! (load ! (from ! (stop !)) (look ! 15 refl)) (no-more !)) (λ w r r-is is. drop ! $ drop ! $
@@ -235,17 +235,17 @@ module _ {M : Type 1} (𝓤 : URA M) (H : Heap 𝓤) (A : Atoms 𝓤) (W : Given
         move ! (29 ∷ []) $ fsplit ! $ fsplit ! $ move ! (1 ∷ []) $ fsplit ! $ move ! (32 ∷ []) $ split ! $ move ! (2 ∷ 3 ∷ 0 ∷ []) $
         opens-slice ! tt R ys b o $
         -- the local's entries, apart
-        owned ! Tb (Is Tb) (t-made 𝓤 H A W) t (tvals t) t-is $ move ! (28 ∷ 0 ∷ []) $ use2 W (‵ (row R fullShare t l₃ 0)) (local-apart R tt vals tells 64 𝓤 H A W l₃ t (tval t)) $ move ! (1 ∷ []) $ first ! $ blocks ! $
+        owned ! (Tb 64) (Is (Tb 64)) (t-made 𝓤 H A W 64) t (tvals t) t-is $ move ! (28 ∷ 0 ∷ []) $ use2 W (‵ (row R fullShare t l₃ 0)) (local-apart R tt vals tells 64 𝓤 H A W l₃ t (tval t)) $ move ! (1 ∷ []) $ first ! $ blocks ! $
         loops ! 𝓣 Nearer Nearer-wf (At l₀ l₁ l₂ l₃ l₄ l₅ l₆ l₇ l₈ l₉ l₁₀ l₁₁ l₁₂ l₁₃) (turns l₀ l₁ l₂ l₃ l₄ l₅ l₆ l₇ l₈ l₉ l₁₀ l₁₁ l₁₂ l₁₃) (0, zero-le))))))))))))))))
 
 module _ {M : Type 1} (𝓤 : URA M) (H : Heap 𝓤) (A : Atoms 𝓤) (W : Given 𝓤 H A) (mem : Memory → SProp 𝓤) (run : Routine → Fun 𝓤) (𝓣 : Tables 𝓤 H)
     (known-limit : Triple 𝓤 (𝓣 .C #store·table·limit) (Limit 𝓤 H A mem run)) where
   store-walks : Walks 𝓤 H A store′.ended stayed (WpFn 𝓤 H (𝓣 .C) (𝓣 .Λ) code.function) (store′.clauses 𝓤 H A mem run)
-  store-walks = walked 𝓤 H A store′.ended stayed (store′.clauses 𝓤 H A mem run) (WpFn 𝓤 H (𝓣 .C) (𝓣 .Λ) code.function) (λ κs. (slice-vals, (tvals, tt))) (λ κs. (mut-slice-tells (named 0) (κs .0) R, (t-tells, tt)))
+  store-walks = walked 𝓤 H A store′.ended stayed (store′.clauses 𝓤 H A mem run) (WpFn 𝓤 H (𝓣 .C) (𝓣 .Λ) code.function) (λ κs. (slice-vals, (tvals, tt))) (λ κs. (mut-slice-tells (named 0) (κs .0) R, (t-tells 64, tt)))
       (λ κs qs bounds a g are. via 𝓤 _ (fst∗ 𝓤 _ (emp 𝓤)) (walk 𝓤 H A W mem run (κs .0) (qs .0) (a .0 .ptr .0) (a .0 .ptr .1) (a .0 .name) (a .0 .now) (a .1 .0) (are .0 .0 .1) (are .1 .0) 𝓣 known-limit))
 
   store-meets : Meets 𝓤 H A store′.signature (WpFn 𝓤 H (𝓣 .C) (𝓣 .Λ) code.function) (store′.spec 𝓤 H A mem run)
-  store-meets = walk-meets 𝓤 H A store′.ended stayed W (goes-slice 𝓤 H A W 1 0 tt (plain (λ _. R)), (goes-none 𝓤 H A W 1 (λ _. Tb) yes (λ κs x f. refl), tt)) (store′.clauses 𝓤 H A mem run) (WpFn 𝓤 H (𝓣 .C) (𝓣 .Λ) code.function) (WpFn-mono 𝓤 H (W .laws) 𝓣 code.function) store-walks
+  store-meets = walk-meets 𝓤 H A store′.ended stayed W (goes-slice 𝓤 H A W 1 0 tt (plain (λ _. R)), (goes-none 𝓤 H A W 1 (λ _. Tb 64) yes (λ κs x f. refl), tt)) (store′.clauses 𝓤 H A mem run) (WpFn 𝓤 H (𝓣 .C) (𝓣 .Λ) code.function) (WpFn-mono 𝓤 H (W .laws) 𝓣 code.function) store-walks
 
 pub store-spec : {M : Type 1} → stated.statement M
 unfolding code.routine tablesOf

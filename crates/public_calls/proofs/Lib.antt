@@ -1,0 +1,3 @@
+pub mod Outs
+pub mod Part
+pub mod PartCells
