@@ -23,13 +23,15 @@ proved() {
     done
 }
 
-# What links the store for C. The example writes the archive that the comparison and the benchmark link too; the comparison runs `relog` besides. Once these are proved this runs beside
-# the rest of `rt ci`: the last crates wait for each other and leave a core idle.
+# What links the store. The example writes the archive for C, which the comparison and the benchmark link too; the comparison links the public calls and runs `relog` besides. Once these are
+# proved this runs beside the rest of `rt ci`: the last crates wait for each other and leave a core idle.
 linked() {
     local failed=0
     proved embed || return 1
     examples/c/run.sh || failed=1
     (cd bench && cargo run --release --offline --quiet -- --check) || failed=1
+    proved public_calls || return 1
+    rt staticlib public_calls || failed=1
     (cd compare && cargo build --release --offline --quiet) || failed=1
     proved relog || return 1
     (cd compare && cargo test --release --offline --quiet && cargo run --release --offline --quiet) || failed=1

@@ -1,8 +1,9 @@
 //! The chart store of document 01, written twice in Rust, and the comparison of the proved store with both.
 //!
 //! `paper` is document 01 rendered as literally as possible; `fast` is an efficient store; `proved` is the
-//! proved one. The comparison gives all the same calls and expects the same answers and the same bytes
-//! after each of them. It knows a store only by the trait `Store`.
+//! proved one by its functions for C, and `public` the same by its public calls. The comparison gives all
+//! the same calls and expects the same answers and the same bytes after each of them. It knows a store only
+//! by the trait `Store`.
 
 pub mod adapters;
 pub mod arena;
@@ -11,10 +12,13 @@ pub mod cases;
 pub mod cover;
 pub mod demands;
 pub mod fast;
+pub mod numbers;
 pub mod observe;
 pub mod paper;
 pub mod prng;
 pub mod proved;
+#[cfg(feature = "public_calls")]
+pub mod public;
 pub mod report;
 pub mod runfile;
 pub mod shrink;

@@ -14,13 +14,15 @@ use compare::arena::{hush_stores, Maker};
 use compare::bench::{Bench, Failure};
 use compare::cases::{Part, PARTS};
 use compare::proved::ProvedStore;
+use compare::public::PublicStore;
 use compare::report;
 use compare::shrink::shrink;
 use std::process::ExitCode;
 use std::time::{Duration, Instant};
 
 /// The implementations that are compared with the paper. A further one is added here.
-const MAKERS: [Maker; 2] = [|| Box::new(FastStore::new()), || Box::new(ProvedStore::new())];
+const MAKERS: [Maker; 3] =
+    [|| Box::new(FastStore::new()), || Box::new(ProvedStore::new()), || Box::new(PublicStore::new())];
 
 struct Arguments {
     long: bool,

@@ -1,16 +1,12 @@
 //! The proved store: the functions of `include/chart_store.h`, from the archive that `rt staticlib embed`
 //! writes, and the arrays that they work on; and the proved program `relog`, which `rt check relog` builds.
 
-use crate::prng::Rng;
+use crate::numbers::{self, unpacked, Garbage};
 use crate::store::{noise, with_length};
-use crate::store::{Answer, Buffer, Call, Lengths, Scope, State, Store, MOST_ACTIVE, RIGHT};
+use crate::store::{Answer, Buffer, Call, Lengths, Scope, State, Store, RIGHT};
 use std::io::Write;
 use std::process::{Command, Stdio};
 
-/// Numbers of an entry of the scope table.
-const ENTRY: usize = 7;
-/// Numbers of a place of the active visits.
-const PLACE: usize = 2;
 /// No fuse.
 const NO_FUSE: u32 = u32::MAX;
 
@@ -69,11 +65,6 @@ calls! {
     fn chart_force_on();
     fn chart_flush_on(page: u8);
     fn chart_read_on(cell: u8);
-}
-
-/// Number and value of an answer.
-fn unpacked(answer: u64) -> Answer {
-    Answer { number: (answer >> 32) as u8, value: i64::from(answer as u32 as i32) }
 }
 
 /// A proved store with what it is lent.
@@ -251,38 +242,12 @@ impl Store for ProvedStore {
     }
 
     fn scopes(&self) -> Vec<Scope> {
-        let entry = |numbers: &[u16]| Scope {
-            maker: numbers[0],
-            holder: numbers[1],
-            cell: numbers[2] as u8,
-            first: numbers[3],
-            last: numbers[4],
-            handed: numbers[5] != 0,
-            count: numbers[6],
-        };
-        self.store.ram.scopes.chunks_exact(ENTRY).map(entry).collect()
+        numbers::scopes(&self.store.ram.scopes)
     }
 
-    /// In RAM that a host has altered any number but 0 is an open phase and a fuse, and the visits begun
-    /// are read modulo 65,536.
     fn state(&self) -> State {
         let Ram { head, visits, tail, .. } = self.store.ram.as_ref();
-        let [phase, kind, left, stored, waiting, begun, active, used] = *head;
-        let mut listed = [0; MOST_ACTIVE];
-        for (visit, place) in listed.iter_mut().zip(visits.chunks_exact(PLACE)) {
-            *visit = place[0];
-        }
-        State {
-            open: phase != 0,
-            fuse: (kind != 0).then_some(left),
-            stored: stored as usize,
-            waiting: waiting as usize,
-            begun: begun as usize % 65_536,
-            active: active as usize,
-            used: used as usize,
-            visits: listed,
-            tail: *tail,
-        }
+        numbers::state(head.map(u64::from), visits, tail)
     }
 
     fn ram(&self) -> Vec<u8> {
@@ -310,42 +275,12 @@ impl Store for ProvedStore {
         self.lengths.set(buffer, length);
     }
 
-    /// Any numbers at all; in most cases with counters, visits and scopes within their bounds, so that calls
-    /// go far, and often with few rows free and few writes left.
     fn scramble(&mut self, seed: u64) {
-        let rng = &mut Rng::new(seed ^ 1);
+        let Garbage { head, visits, scopes, tail } = Garbage::new(seed);
         let ram = &mut self.store.ram;
-        ram.head.iter_mut().for_each(|number| *number = rng.draw() as u32);
-        ram.visits.iter_mut().for_each(|number| *number = rng.draw() as u16);
-        ram.scopes.iter_mut().for_each(|number| *number = rng.draw() as u16);
-        rng.fill(&mut ram.tail);
+        (ram.head, ram.visits) = (head.map(|number| number as u32), visits);
+        (ram.scopes, ram.tail) = (scopes, tail);
         noise(seed, &mut ram.copy);
-        if rng.chance(1, 6) {
-            return;
-        }
-        let [phase, kind, left, stored, waiting, begun, active, used] = &mut ram.head;
-        *phase = u32::from(rng.chance(7, 8));
-        *kind = rng.below(3) as u32;
-        *left = rng.pick(&[0, 1, 2, 7, 40, 100]);
-        *stored = rng.below(4_097) as u32;
-        *waiting = rng.below(65) as u32;
-        if rng.chance(1, 3) {
-            *stored = 4_096 - *waiting - rng.pick(&[0, 0, 1, 8, 40]);
-        }
-        *begun = rng.below(300) as u32;
-        *active = rng.below(17) as u32;
-        *used = rng.below(65) as u32;
-        ram.visits.iter_mut().for_each(|number| *number %= 18);
-        let most = rng.pick(&[18, 2]);
-        for entry in ram.scopes.chunks_exact_mut(ENTRY) {
-            let [maker, holder, cell, first, last, _, count] = entry else { continue };
-            *maker %= most;
-            *holder %= most;
-            *cell %= 256;
-            *first %= 200;
-            *last %= 4_097;
-            *count %= 3;
-        }
     }
 }
 

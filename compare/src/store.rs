@@ -132,7 +132,7 @@ impl State {
     /// Whether rows, active visits and scopes are as many as log, tail and tables have room for.
     pub fn is_within_limits(&self) -> bool {
         self.waiting <= TAIL_ROWS
-            && self.stored + self.waiting <= ROWS
+            && self.stored <= ROWS - self.waiting
             && self.active <= MOST_ACTIVE
             && self.used <= RIGHT.scopes
     }

@@ -8,10 +8,15 @@ use compare::cases::twelve::TWELVE;
 use compare::cover::Cover;
 use compare::paper::Paper;
 use compare::proved::{relog, ProvedStore};
+use compare::public::PublicStore;
 use compare::runfile::{example, parse, run, write};
 
 fn play(cases: &[Case]) {
-    let makers: [Maker; 2] = [|| Box::new(FastStore::new()), || Box::new(ProvedStore::new())];
+    let makers: [Maker; 3] = [
+        || Box::new(FastStore::new()),
+        || Box::new(ProvedStore::new()),
+        || Box::new(PublicStore::new()),
+    ];
     for case in cases {
         let mut cover = Cover::default();
         let mut arena = Arena::new(&makers, &mut cover);
@@ -59,6 +64,7 @@ fn lines_of_the_example() {
         assert_eq!(run(&file, &mut Paper::new()), lines);
         assert_eq!(run(&file, &mut FastStore::new()), lines);
         assert_eq!(run(&file, &mut ProvedStore::new()), lines);
+        assert_eq!(run(&file, &mut PublicStore::new()), lines);
         assert_eq!(relog(&file), lines);
     }
 }

@@ -30,9 +30,9 @@ impl Arena<'_> {
         }
         for other in &mut self.others {
             alter(&mut Rng::new(seed), other.as_mut());
-            for (call, buffer) in calls.iter().zip(BUFFERS.into_iter().cycle()) {
-                for wrong_buffer in [Some(buffer), None] {
-                    let ending = make(step, other.as_mut(), *call, wrong_buffer)?;
+            for (call, wrong) in calls.iter().zip(wrong_lengths()) {
+                for wrong in [Some(wrong), None] {
+                    let ending = make(step, other.as_mut(), *call, wrong)?;
                     self.cover.altered(other.name(), ending);
                     self.calls += 1;
                 }
@@ -44,6 +44,15 @@ impl Arena<'_> {
         self.for_all(|store| store.scramble(seed));
         Ok(())
     }
+}
+
+/// Wrong lengths, over and over: of each buffer in turn, and one too many, one too few and none in turn.
+fn wrong_lengths() -> impl Iterator<Item = (Buffer, usize)> {
+    (0..).map(|at| {
+        let buffer = BUFFERS[at % BUFFERS.len()];
+        let right = RIGHT.get(buffer);
+        (buffer, [right + 1, right - 1, 0][at % 3])
+    })
 }
 
 /// How a call ended, as the cover names it; or what is wrong with that.
@@ -63,21 +72,25 @@ fn make(
     step: usize,
     store: &mut dyn Store,
     call: Call,
-    wrong: Option<Buffer>,
+    wrong: Option<(Buffer, usize)>,
 ) -> Outcome<&'static str> {
     let is_ready = store.is_ready();
     let mut whole = store.copied();
     whole.set_fuse(None);
-    if let Some(buffer) = wrong {
-        store.lend(buffer, RIGHT.get(buffer) + 1);
+    if let Some((buffer, length)) = wrong {
+        store.lend(buffer, length);
     }
     let (state, before) = (store.state(), Memory::of(store));
     let answer = guarded(step, store, &|store| store.call(call))?;
     let made = Made { call, answer, state, before, after: Memory::of(store) };
     let ending = if !is_in_table(call, answer.number) || (answer.number != 0 && answer.value != 0) {
         Err("not an answer of the table".into())
-    } else if wrong.is_some() {
-        made.refused_by(1).map(|()| "refused by 1")
+    } else if let Some((buffer, length)) = wrong {
+        let label = match length > RIGHT.get(buffer) {
+            true => "refused by 1, a buffer too long",
+            false => "refused by 1, a buffer too short",
+        };
+        made.refused_by(1).map(|()| label)
     } else if answer.number == 1 {
         Err("all buffers have their lengths".into())
     } else if !made.state.open {

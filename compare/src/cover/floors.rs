@@ -56,7 +56,8 @@ pub const PLAYED: Table = Table {
 pub const ALTERED: &[Floor] = &[
     ("done", 360),
     ("done under a fuse", 510),
-    ("refused by 1", 5_400),
+    ("refused by 1, a buffer too long", 2_000),
+    ("refused by 1, a buffer too short", 3_300),
     ("refused by another number", 1_200),
     ("5, the store is closed", 1_100),
     ("5, counters beyond their limits", 670),
