@@ -3,14 +3,13 @@ use mathlib.Core.Bool.{true}
 use mathlib.Core.Path.{refl}
 use mathlib.Core.List.{List, [], _∷_}
 use lib.IntN.{pos, negsuc}
-use Rattle.book.specs.Ledger.{after}
-use Rattle.book.specs.Rules.{reserve, scopesInUse}
 use Rattle.book.specs.Calls.{Call}
-use Rattle.book.specs.Power.{Fuse, none, left, force, add}
-use Rattle.book.specs.Book.{takeBack, refusal, adds, through, value, accepted, call, reopened, reopen, opening, done, refusedBy}
+use Rattle.book.specs.Power.{Fuse, none, left}
+use Rattle.book.specs.Book.{done, refusedBy}
 use Rattle.book.specs.Events.{Event, opens, calls}
 use Rattle.book.specs.Cases.{Gives}
 use Rattle.book.specs.Cells.{zeros}
+use Rattle.book.proofs.WorkedExamples.{computes}
 
 -- session 1 with the fuse: begin, begin, visit 1 adds -200 to cell 0, hands it to 2, abort 1, commit 2; session 2 with no fuse: read 0
 abbrev pub example : Fuse → List Event
@@ -21,11 +20,11 @@ example f =
 -- the fourth of the commit's writes does not land: the commit answers 5, and the opening takes the change back
 pub with-fuse-3 : Gives zeros (example (left 3))
     (done (pos 0) ∷ done (pos 1) ∷ done (pos 2) ∷ done (pos 3) ∷ done (pos 4) ∷ done (pos 5) ∷ refusedBy 5 ∷ done (pos 3) ∷ done (pos 0) ∷ [])
-unfolding after reserve scopesInUse force add takeBack refusal adds through value accepted call reopened reopen opening
+unfolding computes
 with-fuse-3 = refl
 
 -- all six land: the change is kept
 pub with-fuse-6 : Gives zeros (example (left 6))
     (done (pos 0) ∷ done (pos 1) ∷ done (pos 2) ∷ done (pos 3) ∷ done (pos 4) ∷ done (pos 5) ∷ done (pos 6) ∷ done (pos 0) ∷ done (negsuc 199) ∷ [])
-unfolding after reserve scopesInUse force add takeBack refusal adds through value accepted call reopened reopen opening
+unfolding computes
 with-fuse-6 = refl

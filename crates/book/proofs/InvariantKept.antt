@@ -11,7 +11,7 @@ use borrow.Author.Tests.{eqb-true, ne-eqb, leb-true}
 use Rattle.book.specs.Lists.{In, keep, any, foldl, member, without}
 use Rattle.book.specs.Limits.{rowLimit, visitLimit}
 use Rattle.book.specs.Rows.{Row, begin, change, handOver, undo, commit, abort, isCell, isAmount, fits}
-use Rattle.book.specs.Ledger.{Change, Ledger, empty, pass, only, handed, after, ledger}
+use Rattle.book.specs.Ledger.{Change, Ledger, empty, pass, only, handedOver, after, ledger}
 use Rattle.book.specs.Rules.{isActive, bearsUndo, isUndone, isOpenChange, openChanges, just, reserve, free, room, mayHandOver, lawful, withinLimits, allowed, allAllowed, allowedLog}
 use Rattle.book.specs.Cells.{isKept}
 use Rattle.book.proofs.Lists.{clash, not-is, and-l, and-r, and-i, or-l, or-r, eqb-sym, in-cons, keep-in, keep-same, keep-map, any-false, length-keep, stays, stays-in, stays-out, goes, length-without}
@@ -102,7 +102,7 @@ inv-change l v c a e i =
       space = rw (act, fresh l i) (omega arith);
     }
 
-inv-handed : (l : Ledger) (g r : ℕ) (cs : ℕ → Bool) → (mayHandOver l g r cs && room l 1) ≡ true → Inv l → Inv (handed l g r cs)
+inv-handed : (l : Ledger) (g r : ℕ) (cs : ℕ → Bool) → (mayHandOver l g r cs && room l 1) ≡ true → Inv l → Inv (handedOver l g r cs)
 unfolding reserve
 inv-handed l g r cs e i =
     let actg : isActive l g ≡ true = search (and-l, and-r) depth 8 in
@@ -110,8 +110,8 @@ inv-handed l g r cs e i =
     let clean : not (bearsUndo l g) ≡ true = search (and-l, and-r) depth 8 in
     let rm : room l 1 ≡ true = search (and-l, and-r) depth 8 in
     let le = leb-true (reserve l + 1) (free l) rm in
-    let passed : (x : Change) → In x (l .changes) → Good (handed l g r cs) (pass g r cs x) =
-    λ x m. let d = i .good x m in pass-cases (Good (handed l g r cs)) g r cs x
+    let passed : (x : Change) → In x (l .changes) → Good (handedOver l g r cs) (pass g r cs x) =
+    λ x m. let d = i .good x m in pass-cases (Good (handedOver l g r cs)) g r cs x
     (λ q. record {
       row = let k = d .row in omega arith;
       low = d .low;

@@ -40,11 +40,11 @@ pub mod AnyCharts
 pub mod OpenBytes
 pub mod ReopenedBytes
 -- cases
+pub mod WorkedExamples
 pub mod OneVisit
 pub mod Cases
 pub mod Example
 -- worked examples
-pub mod WorkedExamples
 pub mod FullLogs
 pub mod RowRules
 pub mod AtTheLimit

@@ -1,4 +1,4 @@
--- Words of the worked examples (RowRules to StoredBytes): logs, and what a call is answered where they are stored.
+-- Words of the cases and the worked examples: logs, and what a call is answered where they are stored.
 use Prim.Native.Nat.{ℕ}
 use mathlib.Core.Bool.{true}
 use mathlib.Core.List.{List, [], _∷_}

@@ -149,8 +149,8 @@ after l r = record {
 }
 
 -- the ledger after a hand-over of a set of cells
-abbrev pub handed : Ledger → ℕ → ℕ → (ℕ → Bool) → Ledger
-handed l g r cs = record {
+abbrev pub handedOver : Ledger → ℕ → ℕ → (ℕ → Bool) → Ledger
+handedOver l g r cs = record {
   rows = suc (l .rows);
   begun = l .begun;
   active = l .active;

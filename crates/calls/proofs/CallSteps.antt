@@ -14,8 +14,8 @@ use Rattle.tables_model.specs.Rows.{Index, afterChange, afterEnd}
 use Rattle.book.specs.Ledger.{only}
 use Rattle.book.specs.Scopes.{Scope}
 use Rattle.journal.specs.Journal.{Journal, forced, forcedUpTo, Paged, paged}
-use Rattle.undo.specs.Writing.{Ram, rowCount, written}
-use Rattle.undo.specs.TakeBack.{Taking, fallAll}
+use Rattle.wal.specs.Writing.{Ram, rowCount, written}
+use Rattle.wal.specs.TakeBack.{Taking, fallAll}
 use Rattle.calls_model.specs.Acts.{Core, flushCount, acted}
 
 -- the parts of what a call works on

@@ -16,9 +16,9 @@ use Rattle.journal.specs.declared.fuse.Spent.{Spent}
 use Rattle.journal.specs.declared.fuse.Spent.the-variants.{Lands, Beyond}
 use Rattle.journal.specs.Writes.{spendOf}
 use Rattle.journal.specs.Journal.{spent, pagedIf, paged}
-use Rattle.undo.specs.Writing.{rowCount}
-use Rattle.undo.proofs.Counters.{Counters, counters-written, counters-fallAll}
-use Rattle.undo.proofs.CountersForced.{counters-forced, counters-forcedUpTo}
+use Rattle.wal.specs.Writing.{rowCount}
+use Rattle.wal.proofs.Counters.{Counters, counters-written, counters-fallAll}
+use Rattle.wal.proofs.CountersForced.{counters-forced, counters-forcedUpTo}
 use Rattle.calls_model.specs.Acts.{Core, acted, fell, upToMark, flushCount}
 
 -- ── A page ────────────────────────────────────────────────────────────────────────────────────────────────────────────

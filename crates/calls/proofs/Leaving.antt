@@ -24,9 +24,9 @@ use Rattle.state.specs.Contracts.{Answered, answered}
 use Rattle.journal.specs.declared.Control.{Control}
 use Rattle.journal.specs.declared.Outcome.{Outcome}
 use Rattle.journal.specs.Outcomes.{stateAfter, Bounded}
-use Rattle.undo.specs.Writing.{rowCount}
-use Rattle.undo.proofs.Clearing.{zeroed-outcome}
-use Rattle.undo.proofs.Counters.{counters}
+use Rattle.wal.specs.Writing.{rowCount}
+use Rattle.wal.proofs.Clearing.{zeroed-outcome}
+use Rattle.wal.proofs.Counters.{counters}
 use Rattle.calls_model.specs.Acts.{Core, core, acted, fell, valueFrom, valueBy, Accepts}
 use Rattle.calls_model.specs.Refusals.{refusalBy}
 use Rattle.calls_model.specs.Perform.{worldOfCore, settled, acceptedBy, Accepted, Held, Failed}

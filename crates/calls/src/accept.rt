@@ -32,7 +32,7 @@ use state::answers::Answer;
 use state::ram::Phase;
 use state::requests::Request;
 use tables_model::Counts;
-use undo::clear::clear_ram;
+use wal::clear::clear_ram;
 
 // Where the power held the call gives this answer; where it failed RAM is cleared.
 fn settle(

@@ -8,7 +8,7 @@ ghost use lib.ListN.{length};
 ghost use Rattle.book.specs.Calls.{Call};
 ghost use Rattle.book.specs.Limits.{pageLimit, chartsLength};
 ghost use Rattle.tables_model.specs.declared.Counts.{Counts as TheCounts};
-ghost use Rattle.undo.specs.Writing.{Fits};
+ghost use Rattle.wal.specs.Writing.{Fits};
 ghost use Rattle.calls_model.specs.Acts.{core, acted, Accepts};
 use charts::charts::read_mark;
 use journal::Control;
@@ -26,8 +26,8 @@ use tables::visits::with_begun;
 use tables_model::CellSet;
 use tables_model::Counts;
 use tables_model::Whom;
-use undo::take_back::take_back;
-use undo::write::write;
+use wal::take_back::take_back;
+use wal::write::write;
 
 // What an accepted call leaves besides the buffers.
 pub struct Acted {

@@ -38,13 +38,13 @@ use Rattle.tables_model.proofs.ActiveVisits.{visitsOf, tablesWith, tables-with,
 use Rattle.tables_model.proofs.Undoing.{used-is}
 use Rattle.tables_model.proofs.Step.{step-by}
 use Rattle.journal.specs.Meaning.{journalOf}
-use Rattle.undo.specs.Writing.{rowCount}
-use Rattle.undo.specs.TakeBack.{Taking, fallAll}
-use Rattle.undo.proofs.Steady.{Steady, steady-sound, steady-all, was-open, add-ledger}
-use Rattle.undo.proofs.RowsLookedUp.{count-rows}
-use Rattle.undo.proofs.RowWritten.{written-stands}
-use Rattle.undo.proofs.FewChanges.{open-few}
-use Rattle.undo.proofs.ChangesFall.{TakingStands, changes-fall}
+use Rattle.wal.specs.Writing.{rowCount}
+use Rattle.wal.specs.TakeBack.{Taking, fallAll}
+use Rattle.wal.proofs.Steady.{Steady, steady-sound, steady-all, was-open, add-ledger}
+use Rattle.wal.proofs.RowsLookedUp.{count-rows}
+use Rattle.wal.proofs.RowWritten.{written-stands}
+use Rattle.wal.proofs.FewChanges.{open-few}
+use Rattle.wal.proofs.ChangesFall.{TakingStands, changes-fall}
 use Rattle.calls_model.specs.Acts.{acted}
 use Rattle.calls_model.proofs.Cores.{ramOf, coreFor, ram-stands, Reaches, reaches}
 

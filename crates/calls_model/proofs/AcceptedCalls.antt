@@ -23,8 +23,8 @@ use Rattle.book.proofs.Marks.{abs-applied}
 use Rattle.book.proofs.Pages.{page-at, cell-back, within-abs, abs-bits}
 use Rattle.tables_model.specs.Meaning.{tablesOf}
 use Rattle.state.specs.Contracts.{chartsAfter}
-use Rattle.undo.specs.Writing.{rowCount}
-use Rattle.undo.proofs.RowsLookedUp.{count-rows}
+use Rattle.wal.specs.Writing.{rowCount}
+use Rattle.wal.proofs.RowsLookedUp.{count-rows}
 use Rattle.calls_model.specs.Acts.{Core, acted, valueBy}
 use Rattle.calls_model.proofs.Cores.{coreFor, Reaches}
 use Rattle.calls_model.proofs.RowCalls.{acted-begin, acted-change, acted-handOver, acted-commit}

@@ -25,7 +25,7 @@ use Rattle.state.specs.World.{World, rightLengths, isOpenPhase, cleared}
 use Rattle.state.specs.Contracts.{Answered, answered, numbers}
 use Rattle.journal.specs.declared.Control.{Control}
 use Rattle.journal.specs.Journal.{paged}
-use Rattle.undo.specs.Writing.{isRunning}
+use Rattle.wal.specs.Writing.{isRunning}
 use Rattle.calls_model.specs.Refusals.{refusalBy}
 use Rattle.calls_model.specs.Acts.{Core, acted}
 use Rattle.calls_model.specs.Perform.{controlIn, coreOf, worldOfCore, settled, decided, isCoherent, numberOf, performed}

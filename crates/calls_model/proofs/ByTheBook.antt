@@ -23,9 +23,9 @@ use Rattle.tables_model.specs.Lookup.{indexOf}
 use Rattle.tables_model.proofs.WithinLimits.{in-range}
 use Rattle.state.specs.World.{World, rightLengths, isOpenPhase, closedState, openState, stateOf, worldOf, Represents}
 use Rattle.state.specs.Contracts.{Answered, answered, withPage, chartsAfter, byBook}
-use Rattle.undo.specs.Writing.{rowCount}
-use Rattle.undo.proofs.Steady.{steady-sound}
-use Rattle.undo.proofs.RowsLookedUp.{count-rows}
+use Rattle.wal.specs.Writing.{rowCount}
+use Rattle.wal.proofs.Steady.{steady-sound}
+use Rattle.wal.proofs.RowsLookedUp.{count-rows}
 use Rattle.calls_model.specs.Refusals.{refusalBy}
 use Rattle.calls_model.specs.Acts.{Core, acted, valueBy}
 use Rattle.calls_model.specs.Perform.{isCoherent, controlIn, coreOf, settled, decided, numberOf, performed}

@@ -22,8 +22,8 @@ use Rattle.state.specs.World.{World, stateOf, tableOf, copyOf, worldOf, cleared
 use Rattle.state.specs.Contracts.{Answered, answered}
 use Rattle.journal.specs.Journal.{Journal}
 use Rattle.journal.specs.Meaning.{controlOf, journalOf}
-use Rattle.undo.specs.Writing.{Ram, isRunning}
-use Rattle.undo.proofs.RowWritten.{Stands, running}
+use Rattle.wal.specs.Writing.{Ram, isRunning}
+use Rattle.wal.proofs.RowWritten.{Stands, running}
 use Rattle.calls_model.specs.Acts.{Core}
 use Rattle.calls_model.specs.Perform.{coreOf, worldOfCore, settled}
 

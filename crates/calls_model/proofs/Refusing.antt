@@ -18,7 +18,7 @@ use Rattle.tables_model.specs.Meaning.{tablesOf}
 use Rattle.tables_model.specs.Lookup.{indexOf}
 use Rattle.tables_model.proofs.ActiveVisits.{is-listed}
 use Rattle.tables_model.proofs.Judge.{holds-by, room-by, fits-by}
-use Rattle.undo.proofs.Steady.{Steady}
+use Rattle.wal.proofs.Steady.{Steady}
 use Rattle.calls_model.specs.Refusals.{refusalBy}
 
 module _ (b : Book) (s : Steady b) where

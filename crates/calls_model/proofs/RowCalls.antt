@@ -23,10 +23,10 @@ use Rattle.tables_model.specs.Rows.{stepBy, afterChange}
 use Rattle.tables_model.specs.Meaning.{tablesOf}
 use Rattle.tables_model.specs.Lookup.{indexOf, beforeUndone}
 use Rattle.tables_model.proofs.Step.{step-by}
-use Rattle.undo.specs.Writing.{written}
-use Rattle.undo.proofs.Steady.{steady-sound, steady-add}
-use Rattle.undo.proofs.RowsLookedUp.{count-rows}
-use Rattle.undo.proofs.RowWritten.{Stands, written-stands, forced-stands}
+use Rattle.wal.specs.Writing.{written}
+use Rattle.wal.proofs.Steady.{steady-sound, steady-add}
+use Rattle.wal.proofs.RowsLookedUp.{count-rows}
+use Rattle.wal.proofs.RowWritten.{Stands, written-stands, forced-stands}
 use Rattle.calls_model.specs.Acts.{acted}
 use Rattle.calls_model.proofs.Cores.{ramOf, coreFor, ram-stands, Reaches, reaches}
 

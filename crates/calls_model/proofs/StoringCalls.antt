@@ -35,8 +35,8 @@ use Rattle.journal.specs.Writes.{putPage}
 use Rattle.journal.specs.Journal.{Journal, Paged, forcedUpTo, paged}
 use Rattle.journal.specs.Meaning.{controlOf, journalOf}
 use Rattle.journal.proofs.Meaning.{forced-up-to, paged-is}
-use Rattle.undo.proofs.Steady.{steady-sound}
-use Rattle.undo.proofs.RowWritten.{running, force-rows, forced-stands}
+use Rattle.wal.proofs.Steady.{steady-sound}
+use Rattle.wal.proofs.RowWritten.{running, force-rows, forced-stands}
 use Rattle.calls_model.specs.Acts.{Core, upToMark, flushCount, acted}
 use Rattle.calls_model.proofs.Cores.{ramOf, coreFor, ram-stands, Reaches, reaches}
 

@@ -21,8 +21,8 @@ use Rattle.tables_model.specs.Table.{Scopes, scopesChanged, scopesHanded, scope
 use Rattle.state.specs.World.{isOpenPhase}
 use Rattle.journal.specs.declared.Control.{Control}
 use Rattle.journal.specs.Journal.{Journal, forced, forcedUpTo, Paged, paged}
-use Rattle.undo.specs.Writing.{Ram, ram, Fits, rowCount, written}
-use Rattle.undo.specs.TakeBack.{Taking, fallAll}
+use Rattle.wal.specs.Writing.{Ram, ram, Fits, rowCount, written}
+use Rattle.wal.specs.TakeBack.{Taking, fallAll}
 use Rattle.calls_model.specs.Refusals.{refusalBy}
 
 -- all that an accepted call works on

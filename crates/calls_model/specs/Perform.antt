@@ -1,11 +1,10 @@
 -- A call from its checks to what it gives back and leaves, for whatever it is handed.
 use Prim.Native.Nat.{ℕ, zero, suc, _+_}
 use mathlib.Core.Path.{_≡_}
-use mathlib.Core.Bool.{Bool, cond, not, _&&_}
-use mathlib.Core.List.{List, map}
+use mathlib.Core.Bool.{Bool, cond, not}
+use mathlib.Core.List.{List, [], map}
 use lib.IntN.{ℤ, pos}
-use lib.Dec.{leb}
-use Rattle.book.specs.Limits.{logLength, chartsLength, rowLimit, tailLimit, activeLimit, scopeLimit}
+use Rattle.book.specs.Limits.{logLength, chartsLength}
 use Rattle.book.specs.Scopes.{Scope as Entry}
 use Rattle.book.specs.Calls.{Call, returns}
 use Rattle.book.specs.Book.{_else_}
@@ -19,18 +18,18 @@ use Rattle.state.specs.declared.answers.Answer.{Answer}
 use Rattle.state.specs.declared.answers.Answer.the-variants as Answer
 use Rattle.state.specs.declared.ram.Phase.the-variants.{Open, Closed}
 use Rattle.state.specs.Answers.{refusal, caseOf, doneCase, HasCase}
-use Rattle.state.specs.World.{World, rightLengths, isOpenPhase, cleared}
+use Rattle.state.specs.World.{World, rightLengths, isOpenPhase, inLimits, cleared}
 use Rattle.state.specs.Contracts.{Answered, answered}
 use Rattle.journal.specs.declared.Control.{Control}
 use Rattle.journal.specs.declared.Outcome.{Outcome}
-use Rattle.journal.specs.Outcomes.{outcome, Bounded, Zeroed}
-use Rattle.undo.specs.Writing.{isRunning}
+use Rattle.journal.specs.Outcomes.{stateAfter, outcome, Bounded, Zeroed}
+use Rattle.wal.specs.Writing.{isRunning}
 use Rattle.calls_model.specs.Refusals.{refusalBy}
 use Rattle.calls_model.specs.Acts.{Core, acted, valueBy}
 
 -- the counters are within their limits: what a state of the host's making may break
 unfoldable pub isCoherent : Control → Tables → Bool
-isCoherent c t = leb (c .waiting) tailLimit && leb (c .stored + c .waiting) rowLimit && leb (t .count) activeLimit && leb (t .used) scopeLimit
+isCoherent c t = inLimits (stateAfter c t [])
 
 abbrev pub controlIn : State → Control
 controlIn s = record { phase = s .phase; fuse = s .fuse; stored = s .stored; waiting = s .waiting }

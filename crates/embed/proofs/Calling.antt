@@ -17,17 +17,17 @@ use Rattle.tables_model.specs.Layout.{entries}
 use Rattle.tables_model.specs.Visits.{tablesIn}
 use Rattle.tables_model.proofs.EntriesBack.{entries-back}
 use Rattle.state.specs.Answers.{numberAndValue}
-use Rattle.state.specs.World.{rightLengths, isOpenPhase, cleared}
+use Rattle.state.specs.World.{rightLengths, isOpenPhase, inLimits, cleared}
 use Rattle.state.specs.Contracts.{Answered, answered, CallPost}
 use Rattle.state.proofs.Cases.{refusal-case}
 use Rattle.journal.specs.declared.Outcome.{Outcome}
 use Rattle.journal.specs.Outcomes.{outcome}
-use Rattle.undo.specs.Writing.{isRunning}
+use Rattle.wal.specs.Writing.{isRunning}
 use Rattle.calls_model.specs.Acts.{Core, core, acted, valueBy, Accepts}
-use Rattle.calls_model.specs.Perform.{coreOf, worldOfCore as worldLeft, settled, numberBy, numberOf, performed, acceptedBy, Accepted}
+use Rattle.calls_model.specs.Perform.{coreOf, worldOfCore as worldLeft, settled, isCoherent, numberBy, numberOf, performed, acceptedBy, Accepted}
 use Rattle.calls_model.proofs.Post.{performed-post}
 use Rattle.calls.proofs.Performing.{passed, when-refused}
-use Rattle.embed_model.specs.Arrays.{Arrays, arrays, inLimits, worldIn, RamLengths}
+use Rattle.embed_model.specs.Arrays.{Arrays, arrays, worldIn, RamLengths}
 use Rattle.embed_model.specs.Head.{controlBy, countsBy, headOf}
 use Rattle.embed_model.specs.Packed.{answerIn}
 use Rattle.embed_model.specs.Called.{answeredIn, CallsOfC}
@@ -56,6 +56,11 @@ phase-in : (x : Arrays) → isOpenPhase (controlBy (x .head) .phase) ≡ isOpenP
 unfolding worldIn
 phase-in x = refl
 
+-- the counters that the head says
+limits-in : (x : Arrays) → isCoherent (controlBy (x .head)) (tablesIn (countsBy (x .head)) (x .visits)) ≡ inLimits (worldIn x .state)
+unfolding isCoherent worldIn
+limits-in x = refl
+
 -- what the checks of a call answer
 abbrev pub numberIn : Arrays → Call → ℕ
 numberIn x k = numberBy (controlBy (x .head)) (tablesIn (countsBy (x .head)) (x .visits)) (entries (x .scopes)) k
@@ -78,9 +83,9 @@ module _ (k : Call) (x : Arrays) (right : rightLengths (worldIn x) ≡ true) whe
         does = rw says (subst (CallPost k (worldIn x)) (sym is) (performed-post (worldIn x) k typed));
         keeps = λ p q. refl;
         shut = λ p. refl;
-        beyond = λ p l. (says ∙ e ∙ ap refusedBy (beyond-five (x .head) (x .visits) (entries (x .scopes)) k l), refl);
+        beyond = λ p l. (says ∙ e ∙ ap refusedBy (beyond-five (x .head) (x .visits) (entries (x .scopes)) k (limits-in x ∙ l)), refl);
         cut = λ o l p.
-            absurd (within-not-five (x .head) (x .visits) (entries (x .scopes)) k (phase-in x ∙ o) l (sym (ap (λ (b : Answer). b .number) (says ∙ e)) ∙ p));
+            absurd (within-not-five (x .head) (x .visits) (entries (x .scopes)) k (phase-in x ∙ o) (limits-in x ∙ l) (sym (ap (λ (b : Answer). b .number) (says ∙ e)) ∙ p));
         done = λ z. absurd (other (sym (ap (λ (b : Answer). b .number) says) ∙ z));
         sized = long;
       }
@@ -95,8 +100,8 @@ passes k x a e z = sym (ap (λ (b : Answer). b .number) e) ∙ z
 is-open : (k : Call) (x : Arrays) → numberIn x k ≡ 0 → isOpenPhase (worldIn x .state .phase) ≡ true
 is-open k x free = sym (phase-in x) ∙ passed (controlBy (x .head)) (countsBy (x .head)) (x .visits) (entries (x .scopes)) k free .running
 
-is-within : (k : Call) (x : Arrays) → numberIn x k ≡ 0 → inLimits (x .head) ≡ false → ⊥
-is-within k x free l = let five = sym (beyond-five (x .head) (x .visits) (entries (x .scopes)) k l) ∙ free in omega arith
+is-within : (k : Call) (x : Arrays) → numberIn x k ≡ 0 → inLimits (worldIn x .state) ≡ false → ⊥
+is-within k x free l = let five = sym (beyond-five (x .head) (x .visits) (entries (x .scopes)) k (limits-in x ∙ l)) ∙ free in omega arith
 
 -- what the work of a call asks
 pub accepts : (k : Call) (x : Arrays) → RamLengths x → length (x .log) ≡ logLength → numberIn x k ≡ 0

@@ -16,7 +16,6 @@ use Rattle.tables_model.specs.Rows.{Index, roomBy, growsBy, holdsBy}
 use Rattle.state.specs.World.{isOpenPhase}
 use Rattle.calls_model.specs.Refusals.{refusalBy}
 use Rattle.calls_model.specs.Perform.{isCoherent, numberBy}
-use Rattle.embed_model.specs.Arrays.{inLimits}
 use Rattle.embed_model.specs.Head.{controlBy, countsBy}
 use Rattle.embed_model.proofs.Fives.{not-five}
 
@@ -39,20 +38,18 @@ refusal-not-five x rows (Call.flush p) = not-five (not (ltb p pageLimit)) (λ e.
 refusal-not-five x rows (Call.read c) = not-five (not (isCell c)) (λ e. omega arith) (λ e. omega arith)
 
 module _ (head visits : List ℕ) (scopes : List Scope) (k : Call) where
+  abbrev within : Bool
+  within = isCoherent (controlBy head) (tablesIn (countsBy head) visits)
+
   abbrev refuses : ℕ
   refuses = numberBy (controlBy head) (tablesIn (countsBy head) visits) scopes k
 
-  -- the checks ask for 01's limits
-  asks : isCoherent (controlBy head) (tablesIn (countsBy head) visits) ≡ inLimits head
-  unfolding isCoherent inLimits
-  asks = refl
-
-  pub beyond-five : inLimits head ≡ false → refuses ≡ 5
-  beyond-five e = rw (asks, e) (go (isOpenPhase (controlBy head .phase)))
+  pub beyond-five : within ≡ false → refuses ≡ 5
+  beyond-five e = rw e (go (isOpenPhase (controlBy head .phase)))
     where
       go : (t : Bool) → _≡_ {A = ℕ} (cond (not t) 5 5) 5
       go true = refl
       go false = refl
 
-  pub within-not-five : isOpenPhase (controlBy head .phase) ≡ true → inLimits head ≡ true → refuses ≢ 5
-  within-not-five o e = rw (o, asks, e) (refusal-not-five _ (controlBy head .stored + controlBy head .waiting) k)
+  pub within-not-five : isOpenPhase (controlBy head .phase) ≡ true → within ≡ true → refuses ≢ 5
+  within-not-five o e = rw (o, e) (refusal-not-five _ (controlBy head .stored + controlBy head .waiting) k)

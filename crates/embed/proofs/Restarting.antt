@@ -14,12 +14,12 @@ use Rattle.book.proofs.AnyCharts.{AreBytes}
 use Rattle.state.specs.declared.answers.Answer.{Answer}
 use Rattle.state.specs.declared.ram.Fuse.{Fuse}
 use Rattle.state.specs.Answers.{numberAndValue}
-use Rattle.state.specs.World.{rightLengths, allowance, cleared}
+use Rattle.state.specs.World.{rightLengths, allowance, fuseOfNumber, cleared}
 use Rattle.state.specs.Contracts.{Answered, answered, badCell}
 use Rattle.state.proofs.Cases.{refusal-case}
 use Rattle.journal.specs.declared.Outcome.{Outcome}
 use Rattle.journal.specs.Outcomes.{outcome, Zeroed, Bounded}
-use Rattle.undo.specs.Writing.{Ram, isRunning}
+use Rattle.wal.specs.Writing.{Ram, isRunning}
 use Rattle.recovery_model.specs.declared.Reason.{Reason}
 use Rattle.recovery_model.specs.declared.Reason.the-variants.{Bytes, Rule, Limit}
 use Rattle.recovery_model.specs.Scan.{numberOfReason, Scanned, scanned}
@@ -30,7 +30,7 @@ use Rattle.recovery_model.proofs.Formats.{format-done, format-refused}
 use Rattle.recovery_model.proofs.Post.{opens-by}
 use Rattle.embed_model.specs.Arrays.{Arrays, arrays, worldIn, RamLengths, Zero}
 use Rattle.embed_model.specs.Head.{countsBy, headOf}
-use Rattle.embed_model.specs.Packed.{answerIn, fuseIn}
+use Rattle.embed_model.specs.Packed.{answerIn}
 use Rattle.embed_model.specs.Called.{answeredIn, FormatsOfC, OpensOfC}
 use Rattle.embed_model.proofs.Arrays.{control-back, zero-cleared, outcome-is, zeroed}
 
@@ -130,7 +130,7 @@ never-one f log charts s = go (not (eqb (s .bad) 0)) (ltb (badPageBy log (s .row
     go false true = λ e. omega arith
     go false false = settled-not-one _ _ _ _
 
-module _ (fuse : ℕ) (f : Fuse) (meant : allowance f ≡ fuseIn fuse) (x : Arrays) (right : rightLengths (worldIn x) ≡ true) (bytes : AreBytes (x .charts))
+module _ (fuse : ℕ) (f : Fuse) (meant : allowance f ≡ fuseOfNumber fuse) (x : Arrays) (right : rightLengths (worldIn x) ≡ true) (bytes : AreBytes (x .charts))
     (r : Outcome) (head visits scopes tail copy log : List ℕ)
     (O : OpenOutcome (checkedBy f (x .log) (x .charts) (scanned (x .log) noIndex)) r log (x .charts) copy tail visits scopes)
     (written : head ≡ headOf (r .control) (r .counts)) (counted : countsBy head ≡ r .counts) where

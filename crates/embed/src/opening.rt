@@ -1,16 +1,13 @@
 // Format and open on the arrays, lent as slices. Neither takes anything from the arrays of RAM.
-ghost use mathlib.Core.Path.{_≡_};
-ghost use Rattle.state.specs.World.{allowance};
 ghost use Rattle.embed_model.specs.Arrays.{arrays, RamLengths};
 ghost use Rattle.embed_model.specs.Called.{FormatsOfC, OpensOfC};
-ghost use Rattle.embed_model.specs.Packed.{fuseIn};
 use crate::head::finish;
 use crate::packed::packed;
 use journal::lengths::stored_fit;
 use state::answers::Answer;
 use state::answers::number_of;
-use state::ram::Fuse;
-use undo::clear::clear_ram;
+use state::ram::fuse_of_number;
+use wal::clear::clear_ram;
 
 pub(crate) fn format(
     head: &mut [u32],
@@ -38,16 +35,6 @@ pub(crate) fn format(
     finish(head, r)
 }
 
-fn fuse_of(n: u32) -> Fuse
-    ensures { λ r. ⌜ allowance r ≡ fuseIn n ⌝ }
-{
-    if n == 4294967295 {
-        Fuse::Unlimited
-    } else {
-        Fuse::Left(n)
-    }
-}
-
 pub(crate) fn open(
     head: &mut [u32],
     visits: &mut [u16],
@@ -66,7 +53,7 @@ pub(crate) fn open(
     if !stored_fit(log.len(), charts.len()) {
         return packed(Answer::WrongLength);
     }
-    let f = fuse_of(fuse);
+    let f = fuse_of_number(fuse);
     let r = recovery::open::open(f, log, charts, copy, tail, visits, scopes);
     finish(head, r)
 }

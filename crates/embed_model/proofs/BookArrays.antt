@@ -2,11 +2,10 @@
 use Prim.Native.Nat.{ℕ, suc, _+_, _≤_}
 use native.Mathlib.Omega.{arith}
 use mathlib.Core.Path.{_≡_, refl, ap, _∙_}
-use mathlib.Core.Bool.{Bool, true, false, cond, _&&_}
+use mathlib.Core.Bool.{Bool, true, false, cond}
 use mathlib.Core.List.{List, [], _∷_, map}
 use lib.ListN.{length, length-append, replicate}
 use lib.IntN.{ℤ}
-use lib.Dec.{leb}
 use borrow.Author.Tests.{le-leb}
 use Rattle.book.specs.Lists.{padTo}
 use Rattle.book.specs.Limits.{chartsLength, rowLimit, tailLimit, activeLimit, scopeLimit}
@@ -25,12 +24,11 @@ use Rattle.tables_model.specs.Layout.{flatLength, visitsLength}
 use Rattle.tables_model.specs.Meaning.{scopeOf, tablesOf, scopeTable}
 use Rattle.tables_model.proofs.WithinLimits.{in-range}
 use Rattle.state.specs.declared.ram.Phase.the-variants.{Open}
-use Rattle.state.specs.declared.ram.State.{State}
-use Rattle.state.specs.World.{World, world, fuseOf, closedState, openState, stateOf, tableOf, copyOf, worldOf, tailLength}
+use Rattle.state.specs.World.{World, world, inLimits, fuseOf, closedState, openState, stateOf, tableOf, copyOf, worldOf, tailLength}
 use Rattle.state.proofs.Lengths.{padded-length}
 use Rattle.journal.specs.declared.Control.{Control}
 use Rattle.journal.specs.Outcomes.{stateAfter}
-use Rattle.embed_model.specs.Arrays.{Arrays, arrays, headLength, inLimits, worldIn, RamLengths, Zero}
+use Rattle.embed_model.specs.Arrays.{Arrays, arrays, headLength, worldIn, RamLengths, Zero}
 use Rattle.embed_model.specs.Head.{headOf}
 use Rattle.embed_model.specs.EveryList.{Below, ArraysOfC, FuseOfC}
 use Rattle.embed_model.proofs.Arrays.{control-back, counts-back, zero-cleared}
@@ -172,15 +170,11 @@ encoded cells b charts s f c = go (b .isOpen) refl
 
 -- ── 01's limits ───────────────────────────────────────────────────────────────────────────────────────────────────────
 
--- as the state says the counters
-abbrev stateInLimits : State → Bool
-stateInLimits s = leb (s .waiting) tailLimit && leb (s .stored + s .waiting) rowLimit && leb (s .tables .count) activeLimit && leb (s .tables .used) scopeLimit
-
-state-in-limits : (b : Book) → Sound b → stateInLimits (stateOf b) ≡ true
+state-in-limits : (b : Book) → Sound b → inLimits (stateOf b) ≡ true
 unfolding stateOf
 state-in-limits b s = go (b .isOpen)
   where
-    go : (t : Bool) → stateInLimits (cond t (openState b) closedState) ≡ true
+    go : (t : Bool) → inLimits (cond t (openState b) closedState) ≡ true
     go true =
         let t = in-range (rowsOf b) (s .allowed) in
         and-i _ _ (and-i _ _ (and-i _ _ (le-leb _ tailLimit (s .tail)) (le-leb _ rowLimit (sound-rows b s))) (le-leb _ activeLimit (t .count)))
@@ -188,9 +182,6 @@ state-in-limits b s = go (b .isOpen)
     go false = refl
 
 -- the counters of a sound book are within them
-pub sound-limits : (cells : ℕ → ℤ) (b : Book) (charts : List ℕ) (x : Arrays) → Sound b → worldIn x ≡ worldOf cells b charts → inLimits (x .head) ≡ true
+pub sound-limits : (cells : ℕ → ℤ) (b : Book) (charts : List ℕ) (x : Arrays) → Sound b → worldIn x ≡ worldOf cells b charts → inLimits (worldIn x .state) ≡ true
 unfolding worldOf
-sound-limits cells b charts x s e = said ∙ ap (λ (w : World). stateInLimits (w .state)) e ∙ state-in-limits b s
-  where
-    said : inLimits (x .head) ≡ stateInLimits (worldIn x .state)
-    said = unfold inLimits worldIn in refl
+sound-limits cells b charts x s e = ap (λ (w : World). inLimits (w .state)) e ∙ state-in-limits b s

@@ -14,9 +14,9 @@ use Rattle.book.specs.Calls.{Call}
 use Rattle.book.specs.Power.{Book, ledgerOf}
 use Rattle.book.specs.Book.{refusal}
 use Rattle.book.proofs.Lists.{and-l, and-r}
-use Rattle.state.specs.World.{rightLengths, isOpenPhase}
+use Rattle.state.specs.World.{rightLengths, isOpenPhase, inLimits}
 use Rattle.state.specs.Contracts.{Answered}
-use Rattle.embed_model.specs.Arrays.{Arrays, inLimits, worldIn}
+use Rattle.embed_model.specs.Arrays.{Arrays, worldIn}
 use Rattle.embed_model.specs.Packed.{answerIn}
 use Rattle.embed_model.specs.Called.{CallsOfC, FiveLeaves}
 
@@ -63,6 +63,6 @@ five-leaves k given r leaves c five = (
   go (isOpenPhase (worldIn given .state .phase)) refl,
 )
   where
-    go : (t : Bool) → isOpenPhase (worldIn given .state .phase) ≡ t → (t && inLimits (given .head)) ≡ false → leaves ≡ given
+    go : (t : Bool) → isOpenPhase (worldIn given .state .phase) ≡ t → (t && inLimits (worldIn given .state)) ≡ false → leaves ≡ given
     go true o limits = c .beyond (five-right k given r leaves c five) limits .1
     go false o limits = c .shut o

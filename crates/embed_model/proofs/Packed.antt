@@ -2,14 +2,14 @@
 use Prim.Native.Nat.{ℕ, _+_, _*_, _/_, _%_, _<_}
 use native.Mathlib.Omega.{arith}
 use mathlib.Core.Path.{_≡_, refl, ap, ap₂, _∙_}
-use mathlib.Core.Bool.{Bool}
 use lib.IntN.{ℤ}
 use borrow.Author.Tests.{ne-eqb}
 use Rattle.book.specs.Book.{Answer, answer}
 use Rattle.book.specs.Numbers.{bitsOf, signed}
 use Rattle.book.specs.Power.{Fuse, none, left}
 use Rattle.book.proofs.Numbers.{InBits, signed-bits}
-use Rattle.embed_model.specs.Packed.{answerIn, fuseIf, fuseIn}
+use Rattle.state.specs.World.{noFuse, fuseOfNumber}
+use Rattle.embed_model.specs.Packed.{answerIn}
 use Rattle.embed_model.specs.EveryList.{FuseOfC}
 
 -- ── Answers ───────────────────────────────────────────────────────────────────────────────────────────────────────────
@@ -41,12 +41,12 @@ packed a h =
 -- ── Fuses ─────────────────────────────────────────────────────────────────────────────────────────────────────────────
 
 abbrev pub fuseNumber : Fuse → ℕ
-fuseNumber none = 4294967295
+fuseNumber none = noFuse
 fuseNumber (left n) = n
 
-pub fuse-back : (f : Fuse) → FuseOfC f → fuseIn (fuseNumber f) ≡ f
+pub fuse-back : (f : Fuse) → FuseOfC f → fuseOfNumber (fuseNumber f) ≡ f
 fuse-back none h = refl
-fuse-back (left n) h = ap (λ (t : Bool). fuseIf t n) (ne-eqb n 4294967295 (λ e. omega arith))
+fuse-back (left n) h = rw (ne-eqb n noFuse (λ e. omega arith))
 
 pub fuse-small : (f : Fuse) → FuseOfC f → fuseNumber f < 4294967296
 fuse-small none h = omega arith

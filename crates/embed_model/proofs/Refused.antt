@@ -8,12 +8,12 @@ use lib.IntN.{ℤ, pos}
 use Rattle.book.specs.Calls.{Call}
 use Rattle.book.specs.Book.{Answer, answer}
 use Rattle.book.proofs.Lists.{clash}
-use Rattle.state.specs.World.{rightLengths}
+use Rattle.state.specs.World.{rightLengths, fuseOfNumber}
 use Rattle.state.specs.Contracts.{formats, CallPost}
 use Rattle.state.proofs.OpenedStores.{opens-refused}
 use Rattle.state.proofs.Satisfiable.{met-lengths}
 use Rattle.embed_model.specs.Arrays.{Arrays, worldIn, RamLengths}
-use Rattle.embed_model.specs.Packed.{answerIn, fuseIn}
+use Rattle.embed_model.specs.Packed.{answerIn}
 use Rattle.embed_model.specs.Called.{FormatsOfC, OpensOfC, CallsOfC}
 
 module _ (x : Arrays) (long : RamLengths x) (r : ℕ) (one : answerIn r ≡ answer 1 (pos 0)) (wrong : rightLengths (worldIn x) ≡ false) where
@@ -31,7 +31,7 @@ module _ (x : Arrays) (long : RamLengths x) (r : ℕ) (one : answerIn r ≡ answ
 
   pub open-refused : (fuse : ℕ) → OpensOfC fuse x r x
   open-refused fuse = record {
-    does = record { is = rw one (sym (opens-refused (fuseIn fuse) (worldIn x) wrong)) };
+    does = record { is = rw one (sym (opens-refused (fuseOfNumber fuse) (worldIn x) wrong)) };
     keeps = λ n. refl;
     clears = λ z n. absurd (n is-one);
     sized = long;

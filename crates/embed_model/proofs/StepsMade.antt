@@ -20,7 +20,7 @@ use Rattle.book.proofs.Lists.{clash}
 use Rattle.book.proofs.Pages.{Bounded}
 use Rattle.book.proofs.Sound.{sound-call, sound-opening, stored-allowed}
 use Rattle.book.proofs.Claims.{grows-open}
-use Rattle.state.specs.World.{World, rightLengths, isOpenPhase, worldOf, Charts, Represents}
+use Rattle.state.specs.World.{World, rightLengths, isOpenPhase, inLimits, fuseOfNumber, worldOf, Charts, Represents}
 use Rattle.state.specs.Contracts.{opens as opensWorld, OpenPost, chartsAfter, byBook, CallPost}
 use Rattle.state.proofs.Lengths.{represented-lengths}
 use Rattle.state.proofs.StoredCharts.{charts-kept, charts-call}
@@ -29,8 +29,8 @@ use Rattle.state.proofs.SameBook.{phase-open}
 use Rattle.state.proofs.Satisfiable.{met}
 use Rattle.sessions.specs.Host.{eventOf, callsFollow}
 use Rattle.sessions.proofs.Held.{Held, represents}
-use Rattle.embed_model.specs.Arrays.{Arrays, arrays, inLimits, worldIn, RamLengths}
-use Rattle.embed_model.specs.Packed.{answerIn, fuseIn}
+use Rattle.embed_model.specs.Arrays.{Arrays, arrays, worldIn, RamLengths}
+use Rattle.embed_model.specs.Packed.{answerIn}
 use Rattle.embed_model.specs.Called.{answeredIn, OpensOfC, CallsOfC}
 use Rattle.embed_model.specs.Host.{StepMade, opens, calls, stepOf, HostLends}
 use Rattle.embed_model.specs.Freedom.{AnyLengthsOfC}
@@ -168,7 +168,7 @@ module _ (cells : ℕ → ℤ) (small : Bounded 1000000 cells) (b : Book) (own :
     unfolding opening reopen
     opened-ends = ends _ (reopened f (b .stored))
 
-    opened-does : OpenPost (fuseIn (fuseNumber f)) (worldIn own) (answeredIn (opened-number .number) (opened-arrays .arrays))
+    opened-does : OpenPost (fuseOfNumber (fuseNumber f)) (worldIn own) (answeredIn (opened-number .number) (opened-arrays .arrays))
     unfolding opening
     opened-does =
         let al = stored-allowed b sound in
@@ -202,8 +202,8 @@ module _ (cells : ℕ → ℤ) (small : Bounded 1000000 cells) (b : Book) (own :
     unfolding byBook
     number-of = packed (r .answer) (call-fits cells small b k sound (typed-call k t) (met cells b k (worldIn own) stands .table))
 
-    not-beyond : {X : Type 0} → inLimits (own .head) ≡ false → X
-    not-beyond l = clash (inLimits (own .head)) (sound-limits cells b (worldIn own .charts) own sound (stands .is)) l
+    not-beyond : {X : Type 0} → inLimits (worldIn own .state) ≡ false → X
+    not-beyond l = clash (inLimits (worldIn own .state)) (sound-limits cells b (worldIn own .charts) own sound (stands .is)) l
 
     -- the book refuses it: the arrays are as they were
     call-keeps : (n : ℕ) → r ≡ refused (suc n) b → (b .isOpen ≡ true → suc n ≢ 5) → CallsOfC k own (number-of .number) own

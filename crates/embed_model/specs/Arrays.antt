@@ -1,11 +1,11 @@
 -- The arrays that a function for C is lent, and the world that they are. Total: any numbers are some world.
-use Prim.Native.Nat.{ℕ, _+_, _%_}
-use mathlib.Core.Bool.{Bool, true, false, not, _&&_}
+use Prim.Native.Nat.{ℕ, _%_}
+use mathlib.Core.Bool.{Bool, true, false, not}
 use mathlib.Core.Path.{_≡_}
 use mathlib.Core.List.{List, map}
 use lib.ListN.{length, getD, replicate}
-use lib.Dec.{eqb, leb}
-use Rattle.book.specs.Limits.{chartsLength, rowLimit, tailLimit, activeLimit, scopeLimit}
+use lib.Dec.{eqb}
+use Rattle.book.specs.Limits.{chartsLength}
 use Rattle.tables_model.specs.Layout.{visitsLength, actives, flatLength, entries}
 use Rattle.tables_model.specs.Meaning.{scopeOf}
 use Rattle.state.specs.declared.ram.Phase.{Phase}
@@ -62,12 +62,6 @@ stateIn head visits tail = record {
   tables = record { begun = getD head 5 0 % 65536; active = actives visits; count = getD head 6 0; used = getD head 7 0 };
   tail = tail;
 }
-
--- 01's limits, of the counters that the head says: at most 64 rows wait, log and tail have at most 4,096 rows, at most 16 visits are active and 64 scope
--- entries in use
-unfoldable pub inLimits : List ℕ → Bool
-inLimits head =
-    leb (getD head 4 0) tailLimit && leb (getD head 3 0 + getD head 4 0) rowLimit && leb (getD head 6 0) activeLimit && leb (getD head 7 0) scopeLimit
 
 -- the world that the arrays are
 unfoldable pub worldIn : Arrays → World

@@ -8,10 +8,10 @@ use mathlib.Core.List.{List}
 use lib.IntN.{ℤ, pos}
 use Rattle.book.specs.Calls.{Call}
 use Rattle.book.specs.Book.{answer}
-use Rattle.state.specs.World.{rightLengths, isOpenPhase}
+use Rattle.state.specs.World.{rightLengths, isOpenPhase, inLimits, fuseOfNumber}
 use Rattle.state.specs.Contracts.{Answered, FormatPost, OpenPost, CallPost}
-use Rattle.embed_model.specs.Arrays.{Arrays, inLimits, worldIn, RamLengths, Zero}
-use Rattle.embed_model.specs.Packed.{answerIn, fuseIn}
+use Rattle.embed_model.specs.Arrays.{Arrays, worldIn, RamLengths, Zero}
+use Rattle.embed_model.specs.Packed.{answerIn}
 
 -- what a call gave back and left
 abbrev pub answeredIn : ℕ → Arrays → Answered
@@ -28,7 +28,7 @@ pub record FormatsOfC (values : List ℤ) (given : Arrays) (r : ℕ) (leaves : A
 
 -- `chart_open_on` with this fuse
 pub record OpensOfC (fuse : ℕ) (given : Arrays) (r : ℕ) (leaves : Arrays) : Type 0 where
-  pub does : OpenPost (fuseIn fuse) (worldIn given) (answeredIn r leaves)
+  pub does : OpenPost (fuseOfNumber fuse) (worldIn given) (answeredIn r leaves)
   -- refused for a length: nothing changes
   pub keeps : answerIn r .number ≡ 1 → leaves ≡ given
   -- the store is rejected, or the power failed
@@ -43,9 +43,9 @@ pub record CallsOfC (k : Call) (given : Arrays) (r : ℕ) (leaves : Arrays) : Ty
   -- nor does any call of a closed store
   pub shut : isOpenPhase (worldIn given .state .phase) ≡ false → leaves ≡ given
   -- the counters are beyond their limits: refused by 5, and nothing changes
-  pub beyond : rightLengths (worldIn given) ≡ true → inLimits (given .head) ≡ false → (answerIn r ≡ answer 5 (pos 0)) × (leaves ≡ given)
+  pub beyond : rightLengths (worldIn given) ≡ true → inLimits (worldIn given .state) ≡ false → (answerIn r ≡ answer 5 (pos 0)) × (leaves ≡ given)
   -- an open store within them that answers 5: the power failed
-  pub cut : isOpenPhase (worldIn given .state .phase) ≡ true → inLimits (given .head) ≡ true → answerIn r .number ≡ 5 → Zero leaves
+  pub cut : isOpenPhase (worldIn given .state .phase) ≡ true → inLimits (worldIn given .state) ≡ true → answerIn r .number ≡ 5 → Zero leaves
   -- a call that is done leaves the store open
   pub done : answerIn r .number ≡ 0 → isOpenPhase (worldIn leaves .state .phase) ≡ true
   pub sized : RamLengths leaves
@@ -55,5 +55,5 @@ pub record CallsOfC (k : Call) (given : Arrays) (r : ℕ) (leaves : Arrays) : Ty
 unfoldable pub FiveLeaves : Type 0
 FiveLeaves =
     (k : Call) (given : Arrays) (r : ℕ) (leaves : Arrays) → CallsOfC k given r leaves → answerIn r .number ≡ 5 →
-    let works : Bool = isOpenPhase (worldIn given .state .phase) && inLimits (given .head) in
+    let works : Bool = isOpenPhase (worldIn given .state .phase) && inLimits (worldIn given .state) in
     (works ≡ true → Zero leaves) × (works ≡ false → leaves ≡ given)

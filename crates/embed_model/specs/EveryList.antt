@@ -12,7 +12,7 @@ use Rattle.book.specs.Rows.{isAmount}
 use Rattle.book.specs.Calls.{Call}
 use Rattle.book.specs.Power.{Fuse, none, left}
 use Rattle.book.specs.Events.{Event}
-use Rattle.state.specs.World.{rightLengths}
+use Rattle.state.specs.World.{rightLengths, noFuse}
 use Rattle.state.specs.Contracts.{badCell}
 use Rattle.sessions.specs.Host.{steps, eventOf}
 use Rattle.embed_model.specs.Arrays.{Arrays, worldIn, RamLengths}
@@ -36,10 +36,10 @@ pub record ArraysOfC (x : Arrays) : Type 0 where
   pub log : Below 256 (x .log)
   pub charts : Below 256 (x .charts)
 
--- a fuse has 32 bits, and 4294967295 is none: C cannot name a fuse of that many writes or more
+-- a fuse has 32 bits, and the greatest number is none: C cannot name a fuse of that many writes or more
 abbrev pub FuseOfC : Fuse → Type 0
 FuseOfC none = Unit {0}
-FuseOfC (left n) = n < 4294967295
+FuseOfC (left n) = n < noFuse
 
 -- a visit has 16 bits, a cell and a page have 8, and an amount is a signed number of 16
 abbrev pub CallOfC : Call → Type 0

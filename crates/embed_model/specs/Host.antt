@@ -7,9 +7,9 @@ use mathlib.Core.List.{List, [], _∷_, _++_, map}
 use lib.IntN.{ℤ}
 use Rattle.book.specs.Limits.{logLength, chartsLength}
 use Rattle.book.specs.Calls.{Call, Typed}
+use Rattle.state.specs.World.{fuseOfNumber}
 use Rattle.sessions.specs.Host.{Opening, Called, Session, Step, opened, called, back, Lent, callsFollow}
 use Rattle.embed_model.specs.Arrays.{Arrays, arrays, worldIn, RamLengths}
-use Rattle.embed_model.specs.Packed.{fuseIn}
 use Rattle.embed_model.specs.Called.{answeredIn, FormatsOfC, OpensOfC, CallsOfC}
 
 -- ── The calls ─────────────────────────────────────────────────────────────────────────────────────────────────────────
@@ -59,7 +59,7 @@ stepsMade (s ∷ ss) = opens (s .opening) ∷ map calls (s .calls) ++ stepsMade 
 -- ── What they are in worlds ───────────────────────────────────────────────────────────────────────────────────────────
 
 abbrev pub openingOf : OpeningMade → Opening
-openingOf o = record { fuse = fuseIn (o .fuse); asLeft = o .asLeft; given = worldIn (o .given); result = answeredIn (o .number) (o .leaves) }
+openingOf o = record { fuse = fuseOfNumber (o .fuse); asLeft = o .asLeft; given = worldIn (o .given); result = answeredIn (o .number) (o .leaves) }
 
 abbrev pub calledOf : CallMade → Called
 calledOf c = record { call = c .call; given = worldIn (c .given); result = answeredIn (c .number) (c .leaves) }

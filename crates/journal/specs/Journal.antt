@@ -13,7 +13,7 @@ use Rattle.state.specs.declared.ram.Phase.the-variants.{Open, Closed}
 use Rattle.journal.specs.declared.Control.{Control}
 use Rattle.journal.specs.declared.fuse.Spent.{Spent}
 use Rattle.journal.specs.declared.fuse.Spent.the-variants.{Lands, Beyond}
-use Rattle.journal.specs.Writes.{spendOf, putAt, putPage, landed}
+use Rattle.journal.specs.Writes.{spendOf, putAt, putPage, ifLands}
 use Rattle.journal.specs.Force.{Ran, chunks, runs, closedAt, controlAfter, shifted}
 
 pub record Journal : Type 0 where
@@ -78,7 +78,7 @@ spent c Beyond = closedAt (c .stored)
 abbrev pub pagedIf : Phase → Control → List ℕ → ℕ → List ℕ → Paged
 pagedIf Closed c charts p page = record { control = c; charts = charts }
 pagedIf Open c charts p page =
-    let s = spendOf (c .fuse) in record { control = spent c s; charts = landed s (putPage charts p page) charts }
+    let s = spendOf (c .fuse) in record { control = spent c s; charts = ifLands s (putPage charts p page) charts }
 
 unfoldable pub paged : Control → List ℕ → ℕ → List ℕ → Paged
 paged c charts p page = pagedIf (c .phase) c charts p page

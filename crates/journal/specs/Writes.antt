@@ -25,6 +25,6 @@ abbrev pub putPage : List ℕ → ℕ → List ℕ → List ℕ
 putPage charts p page = putAt pageLength charts (pageLength * p) page
 
 -- old or new, never a mixture
-abbrev pub landed : Spent → List ℕ → List ℕ → List ℕ
-landed (Lands f) new old = new
-landed Beyond new old = old
+abbrev pub ifLands : Spent → List ℕ → List ℕ → List ℕ
+ifLands (Lands f) new old = new
+ifLands Beyond new old = old

@@ -3,7 +3,7 @@ ghost use mathlib.Core.Path.{_≡_};
 ghost use Prim.Native.Nat.{_+_, _*_, _<_, _≤_};
 ghost use lib.ListN.{length, replicate};
 ghost use Rattle.book.specs.Limits.{rowLength, pageLength};
-ghost use Rattle.journal.specs.Writes.{spendOf, putAt, putRow, putPage, landed};
+ghost use Rattle.journal.specs.Writes.{spendOf, putAt, putRow, putPage, ifLands};
 use crate::fuse::Spent;
 use crate::fuse::spend;
 use rows::limits::PAGE_LENGTH;
@@ -35,7 +35,7 @@ fn put_sixteen(stored: &mut [u8], at: usize, new: &[u8])
 // The row's bytes become row k of the log, counted from 0.
 pub fn store_row(f: Fuse, k: usize, log: &mut [u8], row: &[u8]) -> Spent
     requires { ⌜ (rowLength * k + rowLength ≤ length (now log)) × (length (now row) ≡ rowLength) ⌝ }
-    ensures { λ r. ⌜ (r ≡ spendOf f) × (now (log .exit) ≡ landed (spendOf f) (putRow (now (log .entry)) k (now (row .entry))) (now (log .entry))) ⌝ }
+    ensures { λ r. ⌜ (r ≡ spendOf f) × (now (log .exit) ≡ ifLands (spendOf f) (putRow (now (log .entry)) k (now (row .entry))) (now (log .entry))) ⌝ }
 {
     let s = spend(f);
     match s {
@@ -48,7 +48,7 @@ pub fn store_row(f: Fuse, k: usize, log: &mut [u8], row: &[u8]) -> Spent
 // The page's bytes become page p of the charts, also if they do not change. The half with the mark is written last.
 pub fn store_page(f: Fuse, p: usize, charts: &mut [u8], page: &[u8]) -> Spent
     requires { ⌜ (pageLength * p + pageLength ≤ length (now charts)) × (length (now page) ≡ pageLength) ⌝ }
-    ensures { λ r. ⌜ (r ≡ spendOf f) × (now (charts .exit) ≡ landed (spendOf f) (putPage (now (charts .entry)) p (now (page .entry))) (now (charts .entry))) ⌝ }
+    ensures { λ r. ⌜ (r ≡ spendOf f) × (now (charts .exit) ≡ ifLands (spendOf f) (putPage (now (charts .entry)) p (now (page .entry))) (now (charts .entry))) ⌝ }
 {
     let s = spend(f);
     match s {

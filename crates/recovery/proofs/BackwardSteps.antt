@@ -11,10 +11,10 @@ use Rattle.tables_model.specs.Meaning.{vacant}
 use Rattle.tables_model.specs.declared.Whom.the-variants.{All}
 use Rattle.tables_model.specs.Rows.{Index}
 use Rattle.journal.specs.Journal.{Journal, forced}
-use Rattle.undo.specs.Writing.{Ram, written}
-use Rattle.undo.specs.TakeBack.{Taking, fallAll}
-use Rattle.undo.proofs.Counters.{Counters, counters-written, counters-fallAll}
-use Rattle.undo.proofs.CountersForced.{counters-forced}
+use Rattle.wal.specs.Writing.{Ram, written}
+use Rattle.wal.specs.TakeBack.{Taking, fallAll}
+use Rattle.wal.proofs.Counters.{Counters, counters-written, counters-fallAll}
+use Rattle.wal.proofs.CountersForced.{counters-forced}
 use Rattle.recovery_model.specs.Backward.{abortAll, startingBy, backward}
 
 module _ (active : List Active) (m : Ram) where

@@ -6,7 +6,7 @@ use native.Mathlib.Omega.{arith}
 use lib.Dec.{eqb}
 use Rattle.rows.specs.Reading.{isBlank}
 use Rattle.tables_model.specs.Rows.{Index}
-use Rattle.undo.specs.Looking.{rowBytesAt}
+use Rattle.wal.specs.Looking.{rowBytesAt}
 use Rattle.recovery_model.specs.declared.Reason.the-variants.{Bytes}
 use Rattle.recovery_model.specs.declared.Judged.{Judged}
 use Rattle.recovery_model.specs.declared.Judged.the-variants.{Taken, Ends, Bad}

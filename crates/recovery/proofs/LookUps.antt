@@ -5,8 +5,8 @@ use mathlib.Core.List.{List}
 use native.Mathlib.Nat.{sub-zero}
 use Rattle.book.specs.Scopes.{Scope}
 use Rattle.tables_model.specs.Lookup.{beforeLast}
-use Rattle.undo.specs.Looking.{rowOfPart}
-use Rattle.undo.proofs.LookUps.{same-below}
+use Rattle.wal.specs.Looking.{rowOfPart}
+use Rattle.wal.proofs.LookUps.{same-below}
 use Rattle.recovery_model.specs.Scan.{rowIn}
 
 module _ (log : List ℕ) (k : ℕ) where

@@ -18,7 +18,7 @@ use Rattle.book.specs.Cells.{touches}
 use Rattle.rows.specs.Meaning.{coded, effectOf, effectMeant}
 use Rattle.rows.proofs.Meanings.{meant-coded, effect-meant}
 use Rattle.charts.proofs.Lengths.{page-length}
-use Rattle.undo.specs.Looking.{rowBytesAt}
+use Rattle.wal.specs.Looking.{rowBytesAt}
 use Rattle.recovery_model.specs.Charts.{pageRedone, redoFrom}
 use Rattle.recovery_model.specs.Forward.{pageWith}
 

@@ -18,7 +18,7 @@ use Rattle.tables_model.specs.Rows.{Index, judgeBy}
 use Rattle.tables_model.specs.Lookup.{beforeUndone}
 use Rattle.tables.proofs.Verdicts.{allowed-takes}
 use Rattle.tables.proofs.Ranges.{step-range}
-use Rattle.undo.specs.Looking.{rowBytesAt}
+use Rattle.wal.specs.Looking.{rowBytesAt}
 use Rattle.recovery_model.specs.declared.Reason.{Reason}
 use Rattle.recovery_model.specs.declared.Reason.the-variants.{Bytes}
 use Rattle.recovery_model.specs.declared.Judged.the-variants.{Taken, Ends, Bad}

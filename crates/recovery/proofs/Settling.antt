@@ -16,8 +16,8 @@ use Rattle.tables.proofs.Places.{actives-zero}
 use Rattle.journal.specs.declared.Control.{Control}
 use Rattle.journal.specs.declared.Outcome.{Outcome}
 use Rattle.journal.specs.Outcomes.{Zeroed}
-use Rattle.undo.specs.Writing.{ram}
-use Rattle.undo.proofs.Clearing.{zeroed-outcome}
+use Rattle.wal.specs.Writing.{ram}
+use Rattle.wal.proofs.Clearing.{zeroed-outcome}
 use Rattle.recovery_model.specs.Answering.{OpenOutcome}
 use Rattle.recovery_model.specs.Openings.{settledOpening}
 

@@ -6,7 +6,7 @@ ghost use Rattle.book.specs.Limits.{activeLimit};
 ghost use Rattle.tables_model.specs.Layout.{visitsLength, actives};
 ghost use Rattle.tables_model.specs.Rows.{index};
 ghost use Rattle.state.specs.World.{tailLength};
-ghost use Rattle.undo.specs.Writing.{ram, Fits};
+ghost use Rattle.wal.specs.Writing.{ram, Fits};
 ghost use Rattle.recovery_model.specs.Backward.{abortAll, backward as backwardOf};
 ghost use Rattle.recovery_model.specs.Checking.{Recovers};
 use journal::Control;
@@ -17,8 +17,8 @@ use state::ram::Fuse;
 use state::ram::Phase;
 use tables::visits::active_at;
 use tables_model::Whom;
-use undo::take_back::take_back;
-use undo::write::write;
+use wal::take_back::take_back;
+use wal::write::write;
 
 // An abort row for each of the first `count` visits, the last one first.
 fn abort_all(

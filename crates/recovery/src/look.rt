@@ -21,8 +21,8 @@ use tables::lookup::highest;
 use tables_model::Counts;
 use tables_model::Found;
 use tables_model::Whom;
-use undo::look::before_last_in;
-use undo::look::row_of_part;
+use wal::look::before_last_in;
+use wal::look::row_of_part;
 
 // The change before the last one of the entry found in its scope, among the first k rows of the log; 0 for none.
 fn before_found(log: &[u8], k: usize, scopes: &[u16], found: Found) -> Lsn

@@ -9,7 +9,7 @@ ghost use Rattle.book.specs.Limits.{rowLimit, chartsLength, tailLimit};
 ghost use Rattle.state.specs.Answers.{numberAndValue, refusal, caseOf};
 ghost use Rattle.tables_model.specs.Layout.{flatLength, visitsLength};
 ghost use Rattle.state.specs.World.{tailLength};
-ghost use Rattle.undo.specs.Writing.{ram};
+ghost use Rattle.wal.specs.Writing.{ram};
 ghost use Rattle.recovery_model.specs.Checking.{Lengths, Recovers, found};
 ghost use Rattle.recovery_model.specs.Answering.{OpenOutcome};
 ghost use Rattle.recovery_model.specs.Scan.{numberOfReason, scanned};
@@ -29,7 +29,7 @@ use state::answers::Answer;
 use state::ram::Fuse;
 use state::ram::Phase;
 use tables_model::Counts;
-use undo::clear::clear_ram;
+use wal::clear::clear_ram;
 
 // The rows that an opening wrote after the first `rows`.
 fn rows_written(c: Control, rows: usize) -> u16

@@ -27,7 +27,7 @@ use rows::limits::ROW_LENGTH;
 use rows::numbers::index;
 use rows::reader::row_in;
 use std::num::wrapping_sub_u8;
-use undo::look::row_of_part;
+use wal::look::row_of_part;
 
 // The cells of a page as a number of a cell's type.
 const CELLS_OF_PAGE: u8 = PLACES as u8;

@@ -31,12 +31,12 @@ use Rattle.tables_model.specs.Meaning.{vacant, activeOf, tablesOf, scopeTable}
 use Rattle.tables_model.specs.Lookup.{indexOf}
 use Rattle.journal.specs.Journal.{forced}
 use Rattle.journal.specs.Meaning.{controlOf, journalOf}
-use Rattle.undo.specs.Writing.{Ram, written}
-use Rattle.undo.specs.TakeBack.{Taking, fallAll}
-use Rattle.undo.proofs.Steady.{Steady, steady-add, steady-all, was-open, add-ledger}
-use Rattle.undo.proofs.RowWritten.{Stands, written-stands, forced-stands}
-use Rattle.undo.proofs.FewChanges.{open-few}
-use Rattle.undo.proofs.ChangesFall.{TakingStands, changes-fall}
+use Rattle.wal.specs.Writing.{Ram, written}
+use Rattle.wal.specs.TakeBack.{Taking, fallAll}
+use Rattle.wal.proofs.Steady.{Steady, steady-add, steady-all, was-open, add-ledger}
+use Rattle.wal.proofs.RowWritten.{Stands, written-stands, forced-stands}
+use Rattle.wal.proofs.FewChanges.{open-few}
+use Rattle.wal.proofs.ChangesFall.{TakingStands, changes-fall}
 use Rattle.recovery_model.specs.Backward.{abortAll, startingBy, backward}
 
 -- ── The abort rows ────────────────────────────────────────────────────────────────────────────────────────────────────

@@ -15,8 +15,8 @@ use Rattle.book.specs.LogBytes.{rowsBytes}
 use Rattle.book.specs.Pages.{rowAt}
 use Rattle.book.proofs.RowBytes.{row-back}
 use Rattle.journal.proofs.RowsInBytes.{snoc-bytes}
-use Rattle.undo.specs.Looking.{rowBytesAt}
-use Rattle.undo.proofs.RowsLookedUp.{row-bytes-at, fits-at}
+use Rattle.wal.specs.Looking.{rowBytesAt}
+use Rattle.wal.proofs.RowsLookedUp.{row-bytes-at, fits-at}
 use Rattle.recovery_model.specs.Scan.{rowIn}
 
 -- the bytes of the next row, behind those of the rows before it

@@ -27,7 +27,7 @@ use Rattle.book.proofs.InvariantKept.{few-rows}
 use Rattle.charts.specs.Moves.{pageMoved}
 use Rattle.charts.proofs.PageMoves.{page-moved}
 use Rattle.charts.proofs.ChartMoves.{movedPages, other-page, own-page, last-row}
-use Rattle.undo.specs.Looking.{rowBytesAt}
+use Rattle.wal.specs.Looking.{rowBytesAt}
 use Rattle.recovery_model.specs.Charts.{pageRedone, redoFrom, redoPage, redoCharts}
 use Rattle.recovery_model.proofs.LogRows.{row-read}
 

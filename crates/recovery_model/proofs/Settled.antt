@@ -34,8 +34,8 @@ use Rattle.tables_model.specs.declared.Scope as lent
 use Rattle.tables_model.specs.declared.Tables.{Tables}
 use Rattle.journal.specs.Journal.{Journal}
 use Rattle.journal.specs.Meaning.{controlOf, journalOf}
-use Rattle.undo.specs.Writing.{Ram}
-use Rattle.undo.proofs.RowWritten.{Stands}
+use Rattle.wal.specs.Writing.{Ram}
+use Rattle.wal.proofs.RowWritten.{Stands}
 use Rattle.recovery_model.specs.Openings.{noneActive, settledOpening}
 
 -- ── The tables where no visit is active ───────────────────────────────────────────────────────────────────────────────

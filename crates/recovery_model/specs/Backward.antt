@@ -11,8 +11,8 @@ use Rattle.tables_model.specs.declared.Whom.the-variants.{All}
 use Rattle.tables_model.specs.Meaning.{vacant}
 use Rattle.tables_model.specs.Rows.{Index}
 use Rattle.journal.specs.Journal.{forced}
-use Rattle.undo.specs.Writing.{Ram, written}
-use Rattle.undo.specs.TakeBack.{Taking, fallAll}
+use Rattle.wal.specs.Writing.{Ram, written}
+use Rattle.wal.specs.TakeBack.{Taking, fallAll}
 
 -- an abort row for each of the first m listed visits, the last first
 unfoldable pub abortAll : ℕ → List Active → Ram → Ram

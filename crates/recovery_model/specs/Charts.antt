@@ -11,7 +11,7 @@ use Rattle.book.specs.Cells.{touches, onPage}
 use Rattle.book.specs.Pages.{pageAt, pageOf}
 use Rattle.charts.specs.Moves.{pageMoved}
 use Rattle.charts.specs.Checks.{isSound}
-use Rattle.undo.specs.Looking.{rowBytesAt}
+use Rattle.wal.specs.Looking.{rowBytesAt}
 use Rattle.recovery_model.specs.Scan.{rowIn}
 
 -- 01, open, pages: the mark is 0 or a change or undo row of that page, and the bytes are sound

@@ -14,7 +14,7 @@ use Rattle.state.specs.Contracts.{Answered, answered}
 use Rattle.tables_model.specs.declared.Tables.{Tables}
 use Rattle.tables_model.specs.Rows.{Index}
 use Rattle.journal.specs.Journal.{Journal}
-use Rattle.undo.specs.Writing.{Ram, rowCount, isRunning}
+use Rattle.wal.specs.Writing.{Ram, rowCount, isRunning}
 use Rattle.recovery_model.specs.Scan.{numberOfReason, Scanned, scanned}
 use Rattle.recovery_model.specs.Charts.{badPageBy, redoCharts}
 use Rattle.recovery_model.specs.Backward.{backward}

@@ -14,7 +14,7 @@ use Rattle.tables_model.specs.declared.Verdict.{Verdict}
 use Rattle.tables_model.specs.declared.Verdict.the-variants.{Allowed, Unlawful, OverLimit}
 use Rattle.tables_model.specs.Rows.{Index, judgeBy, stepBy}
 use Rattle.tables_model.specs.Lookup.{beforeUndone}
-use Rattle.undo.specs.Looking.{rowBytesAt}
+use Rattle.wal.specs.Looking.{rowBytesAt}
 use Rattle.recovery_model.specs.declared.Reason.{Reason}
 use Rattle.recovery_model.specs.declared.Reason.the-variants.{Bytes, Rule, Limit}
 use Rattle.recovery_model.specs.declared.Judged.{Judged}

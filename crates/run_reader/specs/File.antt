@@ -1,6 +1,6 @@
 -- Document 01's run file: which bytes are one, and the sessions that it asks for.
 use Prim.Native.Nat.{ℕ, zero, suc, _+_, _*_}
-use mathlib.Core.Bool.{Bool, true, cond, _&&_}
+use mathlib.Core.Bool.{Bool, true, _&&_}
 use mathlib.Core.List.{List, [], _∷_}
 use lib.ListN.{length, getD, take, drop}
 use lib.IntN.{ℤ, pos}
@@ -8,7 +8,8 @@ use lib.Dec.{eqb, leb}
 use Rattle.book.specs.Lists.{eqBytes}
 use Rattle.book.specs.Numbers.{le, number, bitsOf, signed}
 use Rattle.book.specs.Calls.{Call}
-use Rattle.book.specs.Power.{Fuse, none, left}
+use Rattle.book.specs.Power.{Fuse}
+use Rattle.state.specs.World.{fuseOfNumber}
 
 -- ── Sizes ─────────────────────────────────────────────────────────────────────────────────────────────────────────────
 
@@ -27,10 +28,6 @@ entryLength = 8
 -- 01: a call is 6 bytes
 abbrev pub callLength : ℕ
 callLength = 6
-
--- 01: 4294967295 is none
-abbrev pub noFuse : ℕ
-noFuse = 4294967295
 
 -- ── A call ────────────────────────────────────────────────────────────────────────────────────────────────────────────
 
@@ -85,9 +82,6 @@ abbrev pub sessionEntryAt : ℕ → ℕ
 sessionEntryAt i = 1 + entryLength * i
 
 -- 01: fuse (4 bytes), start of body (2), calls (2)
-abbrev pub fuseOfNumber : ℕ → Fuse
-fuseOfNumber n = cond (eqb n noFuse) none (left n)
-
 abbrev pub fuseAt : List ℕ → ℕ → Fuse
 fuseAt bs i = fuseOfNumber (number 4 bs (sessionEntryAt i))
 

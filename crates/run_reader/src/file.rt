@@ -16,6 +16,7 @@ use rows::numbers::read32;
 use rows::numbers::signed;
 use rows::numbers::wide;
 use state::ram::Fuse;
+use state::ram::fuse_of_number;
 use state::requests::Request;
 
 // Sizes in bytes.
@@ -27,19 +28,12 @@ pub const CALL_LENGTH: usize = 6;
 
 const SESSION_LIMIT: usize = 32;
 
-const NO_FUSE: u32 = 4294967295;
-
 // The fuse of entry i.
 pub fn fuse_at(file: &[u8], i: usize) -> Fuse
     requires { ⌜ sessionEntryAt i + entryLength ≤ length (now file) ⌝ }
     ensures { λ r. ⌜ allowance r ≡ fuseAt (now (file .entry)) i ⌝ }
 {
-    let writes = read32(file, 1 + ENTRY_LENGTH * i);
-    if writes == NO_FUSE {
-        Fuse::Unlimited
-    } else {
-        Fuse::Left(writes)
-    }
+    fuse_of_number(read32(file, 1 + ENTRY_LENGTH * i))
 }
 
 // Where entry i says that its body starts.

@@ -31,7 +31,7 @@ abbrev pub logOf : (ℕ → ℤ) → List Step → List Row
 logOf cells ss = bookOf cells ss .stored
 
 -- row n of the log is this row
-pub record Stands (n : ℕ) (row : Row) (rs : List Row) : Type 0 where
+pub record RowIs (n : ℕ) (row : Row) (rs : List Row) : Type 0 where
   pub from : 1 ≤ n
   pub to : n ≤ length rs
   pub is : rowAt rs n ≡ row
@@ -41,7 +41,7 @@ pub record Stands (n : ℕ) (row : Row) (rs : List Row) : Type 0 where
 pub record Lasts (before : Book) (visit : ℕ) (answer : Answer) (later : List Row) : Type 0 where
   pub number : ℕ
   pub value : answer .value ≡ pos number
-  pub row : Stands number (Row.commit visit) later
+  pub row : RowIs number (Row.commit visit) later
   pub sum : (x : Change) → Logged (rowsOf before) x → x .holder ≡ visit → InSum later x
 
 -- the rows that a ready opening wrote: as many as it answers, an undo row for each change that was open

@@ -6,9 +6,9 @@ use mathlib.Core.Path.{_≡_}
 use mathlib.Core.List.{List, map}
 use lib.ListN.{length, take, replicate}
 use lib.IntN.{ℤ}
-use lib.Dec.{eqb}
+use lib.Dec.{eqb, leb}
 use Rattle.book.specs.Lists.{padTo}
-use Rattle.book.specs.Limits.{logLength, chartsLength, scopeLimit, cellLimit, chartBound, moveBound}
+use Rattle.book.specs.Limits.{rowLimit, logLength, chartsLength, activeLimit, scopeLimit, tailLimit, cellLimit, chartBound, moveBound}
 use Rattle.book.specs.Rows.{Row}
 use Rattle.book.specs.Cells.{lastOn}
 use Rattle.book.specs.Scopes.{unused}
@@ -49,6 +49,12 @@ abbrev pub isOpenPhase : Phase → Bool
 isOpenPhase Open = true
 isOpenPhase Closed = false
 
+-- 01's limits, of the counters: at most 64 rows wait, log and tail have at most 4,096 rows, at most 16 visits are active and 64 scope entries in use. A
+-- state of the host's making may be beyond them.
+abbrev pub inLimits : State → Bool
+inLimits s =
+    leb (s .waiting) tailLimit && leb (s .stored + s .waiting) rowLimit && leb (s .tables .count) activeLimit && leb (s .tables .used) scopeLimit
+
 -- ── What a book comes to ──────────────────────────────────────────────────────────────────────────────────────────────
 
 -- 01: a fuse, none or the number of stored writes that still land
@@ -60,6 +66,13 @@ fuseOf (left n) = Left n
 abbrev pub allowance : Fuse → Allowance
 allowance Unlimited = none
 allowance (Left n) = left n
+
+-- 01: in a run file 4294967295 is none, every other number that many writes; C hands over a fuse in the same way
+abbrev pub noFuse : ℕ
+noFuse = 4294967295
+
+abbrev pub fuseOfNumber : ℕ → Allowance
+fuseOfNumber n = cond (eqb n noFuse) none (left n)
 
 -- the length of the tail: 64 rows
 abbrev pub tailLength : ℕ

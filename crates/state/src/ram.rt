@@ -1,4 +1,6 @@
 // The state of the store between calls.
+ghost use mathlib.Core.Path.{_≡_};
+ghost use Rattle.state.specs.World.{allowance, fuseOfNumber};
 use rows::limits::TAIL_LENGTH;
 use tables_model::Tables;
 
@@ -12,6 +14,19 @@ pub enum Phase {
 pub enum Fuse {
     Unlimited,
     Left(u32),
+}
+
+// The number that stands for no fuse, in run files and for C.
+pub const NO_FUSE: u32 = 4294967295;
+
+pub fn fuse_of_number(n: u32) -> Fuse
+    ensures { λ r. ⌜ allowance r ≡ fuseOfNumber n ⌝ }
+{
+    if n == NO_FUSE {
+        Fuse::Unlimited
+    } else {
+        Fuse::Left(n)
+    }
 }
 
 // Rows stored and waiting are counted; the tail has the waiting ones, zero after the last.

@@ -10,7 +10,7 @@ use lib.Dec.{eqb}
 use borrow.Author.Tests.{eqb-true, eq-eqb, eqb-false, ne-eqb}
 use Rattle.book.specs.Lists.{In, keep, member, without}
 use Rattle.book.specs.Rows.{begin, change, commit, abort}
-use Rattle.book.specs.Ledger.{Change, Ledger, continues, newChange, scopeFrom, holds, given, pass, handed, after}
+use Rattle.book.specs.Ledger.{Change, Ledger, continues, newChange, scopeFrom, holds, given, pass, handedOver, after}
 use Rattle.book.specs.Rules.{isActive, isOpenChange, reserve, startsInUse}
 use Rattle.book.specs.Scopes.{Scope, firstRow, standing, entryOf, scopesOf}
 use Rattle.book.specs.Book.{undoOf}
@@ -118,29 +118,29 @@ first-pass : (g r : ℕ) (cs : ℕ → Bool) (xs : List Change) → firstRow (ma
 first-pass g r cs [] = refl
 first-pass g r cs (x ∷ xs) = pass-row g r cs x
 
-standing-pass : (l : Ledger) (g r : ℕ) (cs : ℕ → Bool) (n : ℕ) → standing (handed l g r cs) n ≡ map (pass g r cs) (standing l n)
+standing-pass : (l : Ledger) (g r : ℕ) (cs : ℕ → Bool) (n : ℕ) → standing (handedOver l g r cs) n ≡ map (pass g r cs) (standing l n)
 standing-pass l g r cs n =
     keep-map (stands l n) (pass g r cs) (l .changes) ∙
     ap (map (pass g r cs)) (keep-same _ _ (l .changes) (λ x m. pass-cases (λ (y : Change). stands l n y ≡ stands l n x) g r cs x (λ q. refl) refl))
 
 pub scopes-handed : (l : Ledger) (g r : ℕ) (cs : ℕ → Bool) → isActive l g ≡ true → isActive l r ≡ true
-    → scopesOf (handed l g r cs) ≡ map (replaced (isHeld g cs) (passed r)) (scopesOf l)
+    → scopesOf (handedOver l g r cs) ≡ map (replaced (isHeld g cs) (passed r)) (scopesOf l)
 unfolding scopesOf
 scopes-handed l g r cs actg actr =
-    ap (map (entryOf (handed l g r cs))) (keep-map (startsInUse l) (pass g r cs) (l .changes) ∙
+    ap (map (entryOf (handedOver l g r cs))) (keep-map (startsInUse l) (pass g r cs) (l .changes) ∙
     ap (map (pass g r cs)) (keep-same _ _ (l .changes) (λ x m.
     pass-cases (λ (y : Change). startsInUse l y ≡ startsInUse l x) g r cs x (λ q. rw (q, actg, actr)) refl))) ∙
     map-map _ (pass g r cs) (starts l) ∙
     map-same _ _ (starts l) (λ x m. entry x (holds g cs x)) ∙
     sym (map-map _ (entryOf l) (starts l))
   where
-    same : (x : Change) → (firstRow (standing (handed l g r cs) (x .row)) ≡ firstRow (standing l (x .row)))
-        × (length (standing (handed l g r cs) (x .row)) ≡ length (standing l (x .row)))
+    same : (x : Change) → (firstRow (standing (handedOver l g r cs) (x .row)) ≡ firstRow (standing l (x .row)))
+        × (length (standing (handedOver l g r cs) (x .row)) ≡ length (standing l (x .row)))
     same x =
         let e = standing-pass l g r cs (x .row) in
         (ap firstRow e ∙ first-pass g r cs (standing l (x .row)), ap length e ∙ length-map (standing l (x .row)) (pass g r cs))
 
-    entry : (x : Change) (t : Bool) → entryOf (handed l g r cs) (cond t (given r x) x) ≡ cond t (passed r (entryOf l x)) (entryOf l x)
+    entry : (x : Change) (t : Bool) → entryOf (handedOver l g r cs) (cond t (given r x) x) ≡ cond t (passed r (entryOf l x)) (entryOf l x)
     entry x true = ap₂ (entryLike x r true) (same x .0) (same x .1)
     entry x false = ap₂ (entryLike x (x .holder) (x .handed)) (same x .0) (same x .1)
 

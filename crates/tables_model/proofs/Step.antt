@@ -11,7 +11,7 @@ use borrow.Author.Tests.{eqb-true, ltb-true}
 use Rattle.book.specs.Lists.{keep, padTo, without}
 use Rattle.book.specs.Limits.{activeLimit, scopeLimit}
 use Rattle.book.specs.Rows.{Row, begin, change, handOver, undo, commit, abort}
-use Rattle.book.specs.Ledger.{Ledger, only, handed, after, ledger}
+use Rattle.book.specs.Ledger.{Ledger, only, handedOver, after, ledger}
 use Rattle.book.specs.Rules.{isActive, scopeFits, mayHandOver, lawful, withinLimits, allowed, allowedLog}
 use Rattle.book.specs.Scopes.{Scope, unused, scopesOf}
 use Rattle.book.proofs.Lists.{and-l, and-r, is-false}
@@ -66,21 +66,21 @@ module _ (l : Ledger) (i : Inv l) (S : Scoped (l .changes)) where
       ap (λ (s : Scopes). index (withUsed (tablesOf l) (s .used)) (s .entries))
       (scopes-changed l v c a i S act (scope-room l v c room))
 
-  step-handed : (g r : ℕ) (cs : ℕ → Bool) → mayHandOver l g r cs ≡ true → afterHandOver (indexOf l) g r cs ≡ indexOf (handed l g r cs)
+  step-handed : (g r : ℕ) (cs : ℕ → Bool) → mayHandOver l g r cs ≡ true → afterHandOver (indexOf l) g r cs ≡ indexOf (handedOver l g r cs)
   unfolding scopesHanded scopeTable tablesOf
   step-handed g r cs al =
       let actg : isActive l g ≡ true = search (and-l, and-r) depth 9 in
       let actr : isActive l r ≡ true = search (and-l, and-r) depth 9 in
       let is = scopes-handed l g r cs actg actr in
-      let many : length (scopesOf (handed l g r cs)) ≡ length (scopesOf l) = ap length is ∙ length-map (scopesOf l) (replaced (isHeld g cs) (passed r)) in
+      let many : length (scopesOf (handedOver l g r cs)) ≡ length (scopesOf l) = ap length is ∙ length-map (scopesOf l) (replaced (isHeld g cs) (passed r)) in
       ap₂ index
       (ap (withUsed (tablesOf l)) (sym many))
       (ap₂ (λ (ss ts : List Scope). map (replaced (isHeld g cs) (passed r)) ss ++ ts)
       (take-pad scopeLimit unused (scopesOf l)) (drop-pad scopeLimit unused (scopesOf l)) ∙
       ap (λ (ss : List Scope). ss ++ replicate (scopeLimit - length (reverse (scopesOf l))) unused)
       (map-reverse (replaced (isHeld g cs) (passed r)) (scopesOf l) ∙ ap reverse (sym is)) ∙
-      map-pad scopeLimit unused (reverse (scopesOf l)) (reverse (scopesOf (handed l g r cs)))
-      (length-reverse (scopesOf l) ∙ sym many ∙ sym (length-reverse (scopesOf (handed l g r cs)))))
+      map-pad scopeLimit unused (reverse (scopesOf l)) (reverse (scopesOf (handedOver l g r cs)))
+      (length-reverse (scopesOf l) ∙ sym many ∙ sym (length-reverse (scopesOf (handedOver l g r cs)))))
 
   step-handOver : (n before g r c : ℕ) → allowed l (handOver g r c) ≡ true
       → stepBy (indexOf l) n before (handOver g r c) ≡ indexOf (after l (handOver g r c))

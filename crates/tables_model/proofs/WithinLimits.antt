@@ -10,7 +10,7 @@ use borrow.Author.Tests.{eqb-true, ltb-true}
 use Rattle.book.specs.Lists.{keep, foldl}
 use Rattle.book.specs.Limits.{activeLimit, scopeLimit}
 use Rattle.book.specs.Rows.{Row, begin, change, handOver, undo, commit, abort}
-use Rattle.book.specs.Ledger.{Ledger, empty, newChange, startsScope, only, handed, after, ledger}
+use Rattle.book.specs.Ledger.{Ledger, empty, newChange, startsScope, only, handedOver, after, ledger}
 use Rattle.book.specs.Rules.{isActive, scopesInUse, scopeFits, mayHandOver, lawful, withinLimits, allowed, allAllowed, allowedLog}
 use Rattle.book.specs.Scopes.{scopesOf}
 use Rattle.book.proofs.Lists.{and-l, and-r, any-none, length-keep, keep-all, length-without-le}
@@ -34,7 +34,7 @@ shorter p xs = let k = length-keep p (λ x. true) xs (λ x m h. refl) in let e =
 pub scope-room : (l : Ledger) (v c : ℕ) → scopeFits l v c ≡ true → startsScope l v c ≡ true → length (scopesOf l) < scopeLimit
 scope-room l v c room h = rw (scopes-count l) (ltb-true (scopesInUse l) scopeLimit (rw h at room))
 
-limited-handed : (l : Ledger) (g r : ℕ) (cs : ℕ → Bool) → mayHandOver l g r cs ≡ true → Limited l → Limited (handed l g r cs)
+limited-handed : (l : Ledger) (g r : ℕ) (cs : ℕ → Bool) → mayHandOver l g r cs ≡ true → Limited l → Limited (handedOver l g r cs)
 limited-handed l g r cs e L =
     let actg : isActive l g ≡ true = search (and-l, and-r) depth 9 in
     let actr : isActive l r ≡ true = search (and-l, and-r) depth 9 in

@@ -5,18 +5,9 @@ use borrow.Author.Needs.{needs}
 use Rattle.embed.proofs.chart_change_on.Statement.{statement}
 use Rattle.embed.proofs.chart_change_on.Tie as tie
 
-change-requires : tie.Need-change-requires
-change-requires c κs = search needs
-
-same-length : tie.Need-same-length
-same-length c = search needs
-
-same-length-2 : tie.Need-same-length-2
-same-length-2 c = search needs
-
 returns : tie.Need-returns
 returns c =
     let s = c .before .before .before .before .before .before .before .before .before .before .before .before .before .before in rw (← toZ-ofZ {w = w16} {z = s .args .amount} (s .fits .amount)) (c .before .before .before .before .change .ensures)
 
 pub chart-change-on-spec : {M : Type 1} → statement M
-chart-change-on-spec = tie.close (tie.spec change-requires same-length same-length-2 returns)
+chart-change-on-spec = tie.close (tie.spec (λ c κs. search needs) (λ c. search needs) (λ c. search needs) returns)

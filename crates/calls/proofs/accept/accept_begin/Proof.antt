@@ -16,29 +16,11 @@ add-t10 c =
     let free = free-begin (index (s .args .t) (s .args .visits .now) (s .args .scopes .now)) _ (s .pre .free) in
     omega (arith, free .0)
 
-begin-requires : tie.Need-begin-requires
-begin-requires c κs = search needs
-
 settle-requires : tie.Need-settle-requires
 settle-requires c κs =
     let kept = c .before .before .before .before .before .before .before .before .before .before .before .before .before .before .begin .kept .1 .1 in
     let p = c .before .before .before .before .before .before .before .before .before .before .before .before .before .before .before .before .before .before .before .before .before .before .before .before .before .before .pre in
     (kept .1 .1 .0 ∙ p .fits .copy-long, kept .1 .1 .1 .0 ∙ p .fits .sizes .tail-long, kept .0 ∙ p .ready .visits-long, kept .1 .1 .1 .1 .0 ∙ p .ready .long)
-
-same-length : tie.Need-same-length
-same-length c = search needs
-
-same-length-2 : tie.Need-same-length-2
-same-length-2 c = search needs
-
-same-length-3 : tie.Need-same-length-3
-same-length-3 c = search needs
-
-same-length-4 : tie.Need-same-length-4
-same-length-4 c = search needs
-
-same-length-5 : tie.Need-same-length-5
-same-length-5 c = search needs
 
 returns : tie.Need-returns
 returns c charts =
@@ -50,11 +32,11 @@ accept-begin-spec =
     tie.close
     (tie.spec
     add-t10
-    begin-requires
+    (λ c κs. search needs)
     settle-requires
-    same-length
-    same-length-2
-    same-length-3
-    same-length-4
-    same-length-5
+    (λ c. search needs)
+    (λ c. search needs)
+    (λ c. search needs)
+    (λ c. search needs)
+    (λ c. search needs)
     returns)

@@ -8,9 +8,6 @@ use borrow.Author.Needs.{needs}
 use Rattle.calls.proofs.accept.accept_change.Statement.{statement}
 use Rattle.calls.proofs.accept.accept_change.Tie as tie
 
-change-requires : tie.Need-change-requires
-change-requires c κs = search needs
-
 row-answer-requires : tie.Need-row-answer-requires
 row-answer-requires c κs = rows-by _ _ _ _ _ _ _ _ (Call.change _ _ _) (c .before .before .before .before .before .before .before .before .before .before .before .before .before .before .before .before .before .before .before .before .before .before .pre) _ _ _ _ _ _ _ _ (rw (toZ-ofZ (c .before .before .before .before .before .before .before .before .before .before .before .before .before .before .before .before .before .before .before .before .before .before .fits .z)) at (c .before .before .before .before .before .before .before .before .before .before .before .change .ensures []))
 
@@ -19,21 +16,6 @@ settle-requires c κs =
     let kept = c .before .before .before .before .before .before .before .before .before .before .before .before .before .before .before .before .change .kept .1 .1 in
     let p = c .before .before .before .before .before .before .before .before .before .before .before .before .before .before .before .before .before .before .before .before .before .before .before .before .before .before .before .pre in
     (kept .1 .1 .0 ∙ p .fits .copy-long, kept .1 .1 .1 .0 ∙ p .fits .sizes .tail-long, kept .0 ∙ p .ready .visits-long, kept .1 .1 .1 .1 .0 ∙ p .ready .long)
-
-same-length : tie.Need-same-length
-same-length c = search needs
-
-same-length-2 : tie.Need-same-length-2
-same-length-2 c = search needs
-
-same-length-3 : tie.Need-same-length-3
-same-length-3 c = search needs
-
-same-length-4 : tie.Need-same-length-4
-same-length-4 c = search needs
-
-same-length-5 : tie.Need-same-length-5
-same-length-5 c = search needs
 
 returns : tie.Need-returns
 returns c charts =
@@ -44,12 +26,12 @@ pub accept-change-spec : {M : Type 1} → statement M
 accept-change-spec =
     tie.close
     (tie.spec
-    change-requires
+    (λ c κs. search needs)
     row-answer-requires
     settle-requires
-    same-length
-    same-length-2
-    same-length-3
-    same-length-4
-    same-length-5
+    (λ c. search needs)
+    (λ c. search needs)
+    (λ c. search needs)
+    (λ c. search needs)
+    (λ c. search needs)
     returns)

@@ -12,9 +12,6 @@ use Rattle.calls.proofs.accept.accept_read.Statement.{statement}
 use Rattle.calls.proofs.accept.accept_read.Tie as tie
 use Rattle.calls.proofs.accept.accept_read.Reads as reads
 
-read-cell-requires : tie.Need-read-cell-requires
-read-cell-requires c κs = search needs
-
 returns : tie.Need-returns
 returns c =
     let s = c .before .before .before .before .before .before in
@@ -27,4 +24,4 @@ returns c =
     )
 
 pub accept-read-spec : {M : Type 1} → statement M
-accept-read-spec = tie.close (tie.spec read-cell-requires returns)
+accept-read-spec = tie.close (tie.spec (λ c κs. search needs) returns)

@@ -1,19 +1,13 @@
 -- `calls::act::abort` meets its contract. Assumes nothing.
 use Prim.Native.Nat.{_+_}
 use Rattle.tables_model.specs.declared.Whom.the-variants.{One}
-use Rattle.undo.specs.TakeBack.{taking}
-use Rattle.undo.proofs.Counters.{counters, fits-again, counters-fallAll}
+use Rattle.wal.specs.TakeBack.{taking}
+use Rattle.wal.proofs.Counters.{counters, fits-again, counters-fallAll}
 use Rattle.calls_model.specs.Acts.{core}
 use Rattle.calls.proofs.CallSteps.{aborts}
 use borrow.Author.Needs.{needs}
 use Rattle.calls.proofs.act.abort.Statement.{statement}
 use Rattle.calls.proofs.act.abort.Tie as tie
-
-take-back-requires : tie.Need-take-back-requires
-take-back-requires c κs = search needs
-
-after-end-requires : tie.Need-after-end-requires
-after-end-requires c κs = search needs
 
 write-requires : tie.Need-write-requires
 write-requires c κs =
@@ -22,21 +16,6 @@ write-requires c κs =
     let f = c .before .before .before .before .before .before .before .before .before .before .before .before .before .before .before .before .before .before .take-back in
     let n = rw (← f .ensures) at (counters-fallAll (a .c .stored + a .c .waiting) (One (a .v)) (a .t .used) (taking (a .c) (a .log .now) (a .tail .now) (a .copy .now) (a .scopes .now)) (counters (s .pre .fits))) in
     fits-again (s .pre .fits) n (f .kept .1 .0) (f .kept .1 .1 .0) (f .kept .1 .1 .1 .0)
-
-same-length : tie.Need-same-length
-same-length c = search needs
-
-same-length-2 : tie.Need-same-length-2
-same-length-2 c = search needs
-
-same-length-3 : tie.Need-same-length-3
-same-length-3 c = search needs
-
-same-length-4 : tie.Need-same-length-4
-same-length-4 c = search needs
-
-same-length-5 : tie.Need-same-length-5
-same-length-5 c = search needs
 
 returns : tie.Need-returns
 returns c charts =
@@ -49,12 +28,12 @@ pub abort-spec : {M : Type 1} → statement M
 abort-spec =
     tie.close
     (tie.spec
-    take-back-requires
-    after-end-requires
+    (λ c κs. search needs)
+    (λ c κs. search needs)
     write-requires
-    same-length
-    same-length-2
-    same-length-3
-    same-length-4
-    same-length-5
+    (λ c. search needs)
+    (λ c. search needs)
+    (λ c. search needs)
+    (λ c. search needs)
+    (λ c. search needs)
     returns)

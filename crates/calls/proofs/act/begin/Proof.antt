@@ -21,21 +21,6 @@ with-begun-requires c κs =
     let free = free-begin (index (s .args .t) (s .args .visits .now) (s .args .scopes .now)) _ (s .pre .free) in
     record { long = s .pre .ready .visits-long; begins = record { room = free .1; next = add-one (s .args .t .begun) } }
 
-write-requires : tie.Need-write-requires
-write-requires c κs = search needs
-
-same-length : tie.Need-same-length
-same-length c = search needs
-
-same-length-2 : tie.Need-same-length-2
-same-length-2 c = search needs
-
-same-length-3 : tie.Need-same-length-3
-same-length-3 c = search needs
-
-same-length-4 : tie.Need-same-length-4
-same-length-4 c = search needs
-
 returns : tie.Need-returns
 returns c charts =
     let a = c .before .before .before .before .before .before .before .before .before .before .before .before .before .before .before .before .before .before .before .before .args in
@@ -48,9 +33,9 @@ begin-spec =
     (tie.spec
     add-t11
     with-begun-requires
-    write-requires
-    same-length
-    same-length-2
-    same-length-3
-    same-length-4
+    (λ c κs. search needs)
+    (λ c. search needs)
+    (λ c. search needs)
+    (λ c. search needs)
+    (λ c. search needs)
     returns)

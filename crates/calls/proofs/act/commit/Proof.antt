@@ -1,18 +1,12 @@
 -- `calls::act::commit` meets its contract. Assumes nothing.
 use Rattle.book.specs.Rows.{Row}
-use Rattle.undo.specs.Writing.{ram}
-use Rattle.undo.proofs.Counters.{counters, fits-again, counters-written}
+use Rattle.wal.specs.Writing.{ram}
+use Rattle.wal.proofs.Counters.{counters, fits-again, counters-written}
 use Rattle.calls_model.specs.Acts.{core}
 use Rattle.calls.proofs.CallSteps.{commits}
 use borrow.Author.Needs.{needs}
 use Rattle.calls.proofs.act.commit.Statement.{statement}
 use Rattle.calls.proofs.act.commit.Tie as tie
-
-after-end-requires : tie.Need-after-end-requires
-after-end-requires c κs = search needs
-
-write-requires : tie.Need-write-requires
-write-requires c κs = search needs
 
 force-requires : tie.Need-force-requires
 force-requires c κs =
@@ -21,21 +15,6 @@ force-requires c κs =
     let f = c .before .before .before .before .before .before .before .before .write in
     let n = rw (← f .ensures) at (counters-written (ram (a .c) (a .log .now) (a .tail .now) (a .copy .now)) (Row.commit (a .v .0)) (counters (s .pre .fits))) in
     fits-again (s .pre .fits) n (f .kept .1 .0) (f .kept .1 .1 .0) (f .kept .1 .1 .1 .0) .sizes
-
-same-length : tie.Need-same-length
-same-length c = search needs
-
-same-length-2 : tie.Need-same-length-2
-same-length-2 c = search needs
-
-same-length-3 : tie.Need-same-length-3
-same-length-3 c = search needs
-
-same-length-4 : tie.Need-same-length-4
-same-length-4 c = search needs
-
-same-length-5 : tie.Need-same-length-5
-same-length-5 c = search needs
 
 returns : tie.Need-returns
 returns c charts =
@@ -47,12 +26,12 @@ pub commit-spec : {M : Type 1} → statement M
 commit-spec =
     tie.close
     (tie.spec
-    after-end-requires
-    write-requires
+    (λ c κs. search needs)
+    (λ c κs. search needs)
     force-requires
-    same-length
-    same-length-2
-    same-length-3
-    same-length-4
-    same-length-5
+    (λ c. search needs)
+    (λ c. search needs)
+    (λ c. search needs)
+    (λ c. search needs)
+    (λ c. search needs)
     returns)

@@ -7,20 +7,11 @@ use borrow.Author.Needs.{needs}
 use Rattle.calls.proofs.act.up_to_mark.Statement.{statement}
 use Rattle.calls.proofs.act.up_to_mark.Tie as tie
 
-cast-n : tie.Need-cast-n
-cast-n c = search needs
-
 returns : tie.Need-returns
 returns c =
     let a = (c .before .before .before .args) in
     let e : a .mark .0 - a .c .stored ≡ 0 = omega arith in
     (rw (e, le-leb 0 (a .c .waiting) (omega arith)), omega arith)
-
-sub-if2 : tie.Need-sub-if2
-sub-if2 c = search needs
-
-sub-result : tie.Need-sub-result
-sub-result c = search needs
 
 returns-2 : tie.Need-returns-2
 returns-2 c = (rw (le-leb _ _ (c .before .if2 .taken)), (c .before .if2 .taken))
@@ -29,4 +20,4 @@ returns-3 : tie.Need-returns-3
 returns-3 c = (rw (lt-leb _ _ (c .if2 .left)), omega arith)
 
 pub up-to-mark-spec : {M : Type 1} → statement M
-up-to-mark-spec = tie.close (tie.spec cast-n returns sub-if2 sub-result returns-2 returns-3)
+up-to-mark-spec = tie.close (tie.spec (λ c. search needs) returns (λ c. search needs) (λ c. search needs) returns-2 returns-3)

@@ -11,9 +11,6 @@ use borrow.Author.Needs.{needs}
 use Rattle.calls.proofs.check.check_begin.Statement.{statement}
 use Rattle.calls.proofs.check.check_begin.Tie as tie
 
-is-ready-requires : tie.Need-is-ready-requires
-is-ready-requires c κs = search needs
-
 returns : tie.Need-returns
 returns c vs =
     let x = c .before .before .before .args in when-not-ready (x .c) (tablesIn (x .t) vs) (entries (x .scopes .now)) Call.begin (sym (c .before .is-ready .ensures vs) ∙ not-true _ (c .if1 .taken))
@@ -32,4 +29,4 @@ returns-2 c vs =
 
 pub check-begin-spec : {M : Type 1} → statement M
 check-begin-spec =
-    tie.close (tie.spec is-ready-requires returns add-refuse-begin refuse-begin-requires returns-2)
+    tie.close (tie.spec (λ c κs. search needs) returns add-refuse-begin refuse-begin-requires returns-2)

@@ -11,9 +11,6 @@ use borrow.Author.Needs.{needs}
 use Rattle.calls.proofs.check.check_change.Statement.{statement}
 use Rattle.calls.proofs.check.check_change.Tie as tie
 
-is-ready-requires : tie.Need-is-ready-requires
-is-ready-requires c κs = search needs
-
 returns : tie.Need-returns
 returns c a =
     let x = c .before .before .before .before .args in
@@ -40,4 +37,4 @@ returns-2 c a =
 pub check-change-spec : {M : Type 1} → statement M
 check-change-spec =
     tie.close
-    (tie.spec is-ready-requires returns add-refuse-change refuse-change-requires returns-2)
+    (tie.spec (λ c κs. search needs) returns add-refuse-change refuse-change-requires returns-2)

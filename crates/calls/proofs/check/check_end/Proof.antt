@@ -10,9 +10,6 @@ use borrow.Author.Needs.{needs}
 use Rattle.calls.proofs.check.check_end.Statement.{statement}
 use Rattle.calls.proofs.check.check_end.Tie as tie
 
-is-ready-requires : tie.Need-is-ready-requires
-is-ready-requires c κs = search needs
-
 returns : tie.Need-returns
 returns c scopes =
     let x = c .before .before .before .args in
@@ -34,4 +31,4 @@ returns-2 c scopes =
     (own ∙ when-ready (x .c) t scopes (Call.commit (x .v .0)) e, own ∙ when-ready (x .c) t scopes (Call.abort (x .v .0)) e)
 
 pub check-end-spec : {M : Type 1} → statement M
-check-end-spec = tie.close (tie.spec is-ready-requires returns refuse-end-requires returns-2)
+check-end-spec = tie.close (tie.spec (λ c κs. search needs) returns refuse-end-requires returns-2)

@@ -9,15 +9,9 @@ use borrow.Author.Needs.{needs}
 use Rattle.calls.proofs.check.check_flush.Statement.{statement}
 use Rattle.calls.proofs.check.check_flush.Tie as tie
 
-is-ready-requires : tie.Need-is-ready-requires
-is-ready-requires c κs = search needs
-
 returns : tie.Need-returns
 returns c vs scopes =
     let x = c .before .before .args in when-not-ready (x .c) (tablesIn (x .t) vs) scopes (Call.flush (x .page)) (sym (c .before .is-ready .ensures vs) ∙ not-true _ (c .if1 .taken))
-
-refuse-flush-requires : tie.Need-refuse-flush-requires
-refuse-flush-requires c κs = search needs
 
 returns-2 : tie.Need-returns-2
 unfolding refusalBy
@@ -26,4 +20,4 @@ returns-2 c vs scopes =
     c .refuse-flush .ensures ∙ when-ready (x .c) (tablesIn (x .t) vs) scopes (Call.flush (x .page)) (sym (c .before .before .is-ready .ensures vs) ∙ not-false _ (c .before .if1 .left))
 
 pub check-flush-spec : {M : Type 1} → statement M
-check-flush-spec = tie.close (tie.spec is-ready-requires returns refuse-flush-requires returns-2)
+check-flush-spec = tie.close (tie.spec (λ c κs. search needs) returns (λ c κs. search needs) returns-2)

@@ -8,9 +8,6 @@ use borrow.Author.Needs.{needs}
 use Rattle.calls.proofs.check.check_force.Statement.{statement}
 use Rattle.calls.proofs.check.check_force.Tie as tie
 
-is-ready-requires : tie.Need-is-ready-requires
-is-ready-requires c κs = search needs
-
 returns : tie.Need-returns
 unfolding refusalBy
 returns c vs scopes =
@@ -21,4 +18,4 @@ returns-2 c vs scopes =
     let x = c .before .before .args in when-not-ready (x .c) (tablesIn (x .t) vs) scopes Call.force (sym (c .before .is-ready .ensures vs) ∙ c .if1 .left)
 
 pub check-force-spec : {M : Type 1} → statement M
-check-force-spec = tie.close (tie.spec is-ready-requires returns returns-2)
+check-force-spec = tie.close (tie.spec (λ c κs. search needs) returns returns-2)

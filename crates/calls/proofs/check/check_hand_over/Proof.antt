@@ -11,9 +11,6 @@ use borrow.Author.Needs.{needs}
 use Rattle.calls.proofs.check.check_hand_over.Statement.{statement}
 use Rattle.calls.proofs.check.check_hand_over.Tie as tie
 
-is-ready-requires : tie.Need-is-ready-requires
-is-ready-requires c κs = search needs
-
 returns : tie.Need-returns
 returns c =
     let x = c .before .before .before .before .args in
@@ -40,4 +37,4 @@ returns-2 c =
 pub check-hand-over-spec : {M : Type 1} → statement M
 check-hand-over-spec =
     tie.close
-    (tie.spec is-ready-requires returns add-refuse-hand-over refuse-hand-over-requires returns-2)
+    (tie.spec (λ c κs. search needs) returns add-refuse-hand-over refuse-hand-over-requires returns-2)

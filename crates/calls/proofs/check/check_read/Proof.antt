@@ -9,15 +9,9 @@ use borrow.Author.Needs.{needs}
 use Rattle.calls.proofs.check.check_read.Statement.{statement}
 use Rattle.calls.proofs.check.check_read.Tie as tie
 
-is-ready-requires : tie.Need-is-ready-requires
-is-ready-requires c κs = search needs
-
 returns : tie.Need-returns
 returns c vs scopes =
     let x = c .before .before .args in when-not-ready (x .c) (tablesIn (x .t) vs) scopes (Call.read (x .k .0)) (sym (c .before .is-ready .ensures vs) ∙ not-true _ (c .if1 .taken))
-
-refuse-read-requires : tie.Need-refuse-read-requires
-refuse-read-requires c κs = search needs
 
 returns-2 : tie.Need-returns-2
 unfolding refusalBy
@@ -26,4 +20,4 @@ returns-2 c vs scopes =
     c .refuse-read .ensures ∙ when-ready (x .c) (tablesIn (x .t) vs) scopes (Call.read (x .k .0)) (sym (c .before .before .is-ready .ensures vs) ∙ not-false _ (c .before .if1 .left))
 
 pub check-read-spec : {M : Type 1} → statement M
-check-read-spec = tie.close (tie.spec is-ready-requires returns refuse-read-requires returns-2)
+check-read-spec = tie.close (tie.spec (λ c κs. search needs) returns (λ c κs. search needs) returns-2)

@@ -11,9 +11,6 @@ returns : tie.Need-returns
 unfolding isCoherent
 returns c vs = let x = c .before .before .args in rw (lt-leb (x .c .waiting) 64 (omega arith))
 
-sub-if2 : tie.Need-sub-if2
-sub-if2 c = search needs
-
 returns-2 : tie.Need-returns-2
 unfolding isCoherent
 returns-2 c vs =
@@ -32,4 +29,4 @@ returns-4 c vs =
     rw (le-leb (x .c .waiting) 64 (omega arith), le-leb (x .c .stored + x .c .waiting) 4096 (omega arith), le-leb (x .t .count) 16 (omega arith))
 
 pub is-coherent-spec : {M : Type 1} → statement M
-is-coherent-spec = tie.close (tie.spec returns sub-if2 returns-2 returns-3 returns-4)
+is-coherent-spec = tie.close (tie.spec returns (λ c. search needs) returns-2 returns-3 returns-4)

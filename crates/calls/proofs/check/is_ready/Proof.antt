@@ -5,15 +5,6 @@ use borrow.Author.Needs.{needs}
 use Rattle.calls.proofs.check.is_ready.Statement.{statement}
 use Rattle.calls.proofs.check.is_ready.Tie as tie
 
-enum-told : tie.Need-enum-told
-enum-told c = search needs
-
-is-coherent-requires : tie.Need-is-coherent-requires
-is-coherent-requires c κs = search needs
-
-enum-told-2 : tie.Need-enum-told-2
-enum-told-2 c = search needs
-
 returns : tie.Need-returns
 returns c vs = c .is-coherent .ensures vs ∙ when-open _ _ (c .before .enum-told .given .1)
 
@@ -21,4 +12,4 @@ returns-2 : tie.Need-returns-2
 returns-2 c vs = rw (c .enum-told2 .given .1)
 
 pub is-ready-spec : {M : Type 1} → statement M
-is-ready-spec = tie.close (tie.spec enum-told is-coherent-requires enum-told-2 returns returns-2)
+is-ready-spec = tie.close (tie.spec (λ c. search needs) (λ c κs. search needs) (λ c. search needs) returns returns-2)

@@ -13,9 +13,6 @@ returns-2 : tie.Need-returns-2
 unfolding refusalBy
 returns-2 c vs = rw (lt-leb _ _ (c .before .before .if1 .left), le-leb _ _ (c .if2 .taken))
 
-has-room-requires : tie.Need-has-room-requires
-has-room-requires c κs = search needs
-
 returns-3 : tie.Need-returns-3
 unfolding refusalBy
 returns-3 c vs = rw (lt-leb _ _ (c .before .before .before .before .if1 .left), lt-leb _ _ (c .before .before .if2 .left), ← (c .before .has-room .ensures vs), (c .if3 .taken))
@@ -25,4 +22,4 @@ unfolding refusalBy
 returns-4 c vs = rw (lt-leb _ _ (c .before .before .before .before .if1 .left), lt-leb _ _ (c .before .before .if2 .left), ← (c .before .has-room .ensures vs), (c .if3 .left))
 
 pub refuse-begin-spec : {M : Type 1} → statement M
-refuse-begin-spec = tie.close (tie.spec returns returns-2 has-room-requires returns-3 returns-4)
+refuse-begin-spec = tie.close (tie.spec returns returns-2 (λ c κs. search needs) returns-3 returns-4)

@@ -5,15 +5,9 @@ use borrow.Author.Needs.{needs}
 use Rattle.calls.proofs.refuse.refuse_hand_over.Statement.{statement}
 use Rattle.calls.proofs.refuse.refuse_hand_over.Tie as tie
 
-is-listed-requires : tie.Need-is-listed-requires
-is-listed-requires c κs = search needs
-
 returns : tie.Need-returns
 unfolding refusalBy
 returns c = rw (← (c .before .is-listed .ensures), (c .if1 .taken))
-
-is-listed-requires-2 : tie.Need-is-listed-requires-2
-is-listed-requires-2 c κs = search needs
 
 returns-2 : tie.Need-returns-2
 unfolding refusalBy
@@ -23,22 +17,13 @@ returns-3 : tie.Need-returns-3
 unfolding refusalBy
 returns-3 c = rw (← (c .before .before .before .before .before .before .is-listed .ensures), (c .before .before .before .before .before .if1 .left), ← (c .before .before .before .before .is-listed2 .ensures), (c .before .before .before .if2 .left), eq-eqb _ _ (c .if3 .taken))
 
-is-cell-requires : tie.Need-is-cell-requires
-is-cell-requires c κs = search needs
-
 returns-4 : tie.Need-returns-4
 unfolding refusalBy
 returns-4 c = rw (← (c .before .before .before .before .before .before .before .before .is-listed .ensures), (c .before .before .before .before .before .before .before .if1 .left), ← (c .before .before .before .before .before .before .is-listed2 .ensures), (c .before .before .before .before .before .if2 .left), ne-eqb _ _ (c .before .before .if3 .left), ← (c .before .is-cell .ensures), (c .if4 .taken))
 
-holds-cell-requires : tie.Need-holds-cell-requires
-holds-cell-requires c κs = search needs
-
 returns-5 : tie.Need-returns-5
 unfolding refusalBy
 returns-5 c = rw (← (c .before .before .before .before .before .before .before .before .before .before .is-listed .ensures), (c .before .before .before .before .before .before .before .before .before .if1 .left), ← (c .before .before .before .before .before .before .before .before .is-listed2 .ensures), (c .before .before .before .before .before .before .before .if2 .left), ne-eqb _ _ (c .before .before .before .before .if3 .left), ← (c .before .before .before .is-cell .ensures), (c .before .before .if4 .left), ← (c .before .holds-cell .ensures), (c .if5 .taken))
-
-has-room-requires : tie.Need-has-room-requires
-has-room-requires c κs = search needs
 
 returns-6 : tie.Need-returns-6
 unfolding refusalBy
@@ -52,15 +37,15 @@ pub refuse-hand-over-spec : {M : Type 1} → statement M
 refuse-hand-over-spec =
     tie.close
     (tie.spec
-    is-listed-requires
+    (λ c κs. search needs)
     returns
-    is-listed-requires-2
+    (λ c κs. search needs)
     returns-2
     returns-3
-    is-cell-requires
+    (λ c κs. search needs)
     returns-4
-    holds-cell-requires
+    (λ c κs. search needs)
     returns-5
-    has-room-requires
+    (λ c κs. search needs)
     returns-6
     returns-7)

@@ -3,9 +3,6 @@ use borrow.Author.Needs.{needs}
 use Rattle.calls.proofs.refuse.refuse_read.Statement.{statement}
 use Rattle.calls.proofs.refuse.refuse_read.Tie as tie
 
-is-cell-requires : tie.Need-is-cell-requires
-is-cell-requires c κs = search needs
-
 returns : tie.Need-returns
 returns c = rw (← (c .before .is-cell .ensures), (c .if1 .taken))
 
@@ -13,4 +10,4 @@ returns-2 : tie.Need-returns-2
 returns-2 c = rw (← (c .before .is-cell .ensures), (c .if1 .left))
 
 pub refuse-read-spec : {M : Type 1} → statement M
-refuse-read-spec = tie.close (tie.spec is-cell-requires returns returns-2)
+refuse-read-spec = tie.close (tie.spec (λ c κs. search needs) returns returns-2)

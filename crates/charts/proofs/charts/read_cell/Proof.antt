@@ -8,29 +8,8 @@ use Rattle.charts.proofs.Parts.{cell-beyond}
 use Rattle.charts.proofs.charts.read_cell.Statement.{statement}
 use Rattle.charts.proofs.charts.read_cell.Tie as tie
 
-cast-c : tie.Need-cast-c
-cast-c c = search needs
-
 returns : tie.Need-returns
 returns c = cell-beyond (c .before .before .before .args .charts .now) (c .before .before .before .pre) (c .before .before .before .args .cell .0) (omega arith)
-
-mul-a : tie.Need-mul-a
-mul-a c = search needs
-
-add-e : tie.Need-add-e
-add-e c = search needs
-
-sub-read-place : tie.Need-sub-read-place
-sub-read-place c = search needs
-
-part-read-place-start : tie.Need-part-read-place-start
-part-read-place-start c = search needs
-
-part-read-place-end : tie.Need-part-read-place-end
-part-read-place-end c = search needs
-
-read-place-requires : tie.Need-read-place-requires
-read-place-requires c κs = search needs
 
 returns-2 : tie.Need-returns-2
 returns-2 c =
@@ -42,12 +21,12 @@ pub read-cell-spec : {M : Type 1} → statement M
 read-cell-spec =
     tie.close
     (tie.spec
-    cast-c
+    (λ c. search needs)
     returns
-    mul-a
-    add-e
-    sub-read-place
-    part-read-place-start
-    part-read-place-end
-    read-place-requires
+    (λ c. search needs)
+    (λ c. search needs)
+    (λ c. search needs)
+    (λ c. search needs)
+    (λ c. search needs)
+    (λ c κs. search needs)
     returns-2)

@@ -10,24 +10,6 @@ use Rattle.charts.proofs.charts.read_mark.Tie as tie
 returns : tie.Need-returns
 returns c = mark-beyond (c .before .before .args .charts .now) (c .before .before .pre) (c .before .before .args .p) (omega arith)
 
-mul-a : tie.Need-mul-a
-mul-a c = search needs
-
-add-e : tie.Need-add-e
-add-e c = search needs
-
-sub-read-mark : tie.Need-sub-read-mark
-sub-read-mark c = search needs
-
-part-read-mark-start : tie.Need-part-read-mark-start
-part-read-mark-start c = search needs
-
-part-read-mark-end : tie.Need-part-read-mark-end
-part-read-mark-end c = search needs
-
-read-mark-requires : tie.Need-read-mark-requires
-read-mark-requires c κs = search needs
-
 returns-2 : tie.Need-returns-2
 returns-2 c =
     let p = c .before .before .before .before .args .p in
@@ -39,10 +21,10 @@ read-mark-spec =
     tie.close
     (tie.spec
     returns
-    mul-a
-    add-e
-    sub-read-mark
-    part-read-mark-start
-    part-read-mark-end
-    read-mark-requires
+    (λ c. search needs)
+    (λ c. search needs)
+    (λ c. search needs)
+    (λ c. search needs)
+    (λ c. search needs)
+    (λ c κs. search needs)
     returns-2)

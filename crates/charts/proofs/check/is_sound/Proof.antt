@@ -6,12 +6,6 @@ use Rattle.charts.specs.Checks.{isSound}
 use Rattle.charts.proofs.check.is_sound.Statement.{statement}
 use Rattle.charts.proofs.check.is_sound.Tie as tie
 
-read16-requires : tie.Need-read16-requires
-read16-requires c κs = search needs
-
-first-out-requires : tie.Need-first-out-requires
-first-out-requires c κs = search needs
-
 returns : tie.Need-returns
 unfolding isSound
 returns c =
@@ -25,4 +19,4 @@ returns-2 c =
     rw (ne-eqb _ 0 (λ e. c .if1 .left (zero ∙ e)))
 
 pub is-sound-spec : {M : Type 1} → statement M
-is-sound-spec = tie.close (tie.spec read16-requires first-out-requires returns returns-2)
+is-sound-spec = tie.close (tie.spec (λ c κs. search needs) (λ c κs. search needs) returns returns-2)

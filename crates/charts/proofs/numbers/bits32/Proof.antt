@@ -13,11 +13,8 @@ add-up c = sum-fits (c .args .z) (c .fits .z)
 cast-up-2 : tie.Need-cast-up-2
 cast-up-2 c = sum-natural (c .args .z) (c .fits .z)
 
-cast-result : tie.Need-cast-result
-cast-result c = search needs
-
 returns : tie.Need-returns
 returns c = sum-bits (c .args .z) (c .fits .z)
 
 pub bits32-spec : {M : Type 1} → statement M
-bits32-spec = tie.close (tie.spec cast-up add-up cast-up-2 cast-result returns)
+bits32-spec = tie.close (tie.spec cast-up add-up cast-up-2 (λ c. search needs) returns)

@@ -8,11 +8,8 @@ use Rattle.charts.proofs.numbers.extended.Tie as tie
 cast-bits32 : tie.Need-cast-bits32
 cast-bits32 c = extends (c .args .amount) (c .fits .amount)
 
-bits32-requires : tie.Need-bits32-requires
-bits32-requires c κs = search needs
-
 returns : tie.Need-returns
 returns c = c .bits32 .ensures ∙ extended-bits (c .before .args .amount) (c .before .fits .amount)
 
 pub extended-spec : {M : Type 1} → statement M
-extended-spec = tie.close (tie.spec cast-bits32 bits32-requires returns)
+extended-spec = tie.close (tie.spec cast-bits32 (λ c κs. search needs) returns)

@@ -8,20 +8,11 @@ use Rattle.charts.proofs.Sums.{bits-less}
 use Rattle.charts.proofs.numbers.moved32.Statement.{statement}
 use Rattle.charts.proofs.numbers.moved32.Tie as tie
 
-extended-requires : tie.Need-extended-requires
-extended-requires c κs = search needs
-
-wrapping-sub-u32-requires : tie.Need-wrapping-sub-u32-requires
-wrapping-sub-u32-requires c κs = search needs
-
 returns : tie.Need-returns
 returns c =
     let start = c .before .before .before in
     let e : c .before .before .extended .result ≡ bitsOf 32 (start .args .amount) = c .before .before .extended .ensures ∙ ap (bitsOf 32) (toZ-ofZ (start .fits .amount)) in
     rw (c .before .if1 .taken) (bits-less (c .wrapping-sub-u32 .result) (start .args .old) (start .args .amount) (omega arith) (rw e at (c .wrapping-sub-u32 .ensures)))
-
-wrapping-add-u32-requires : tie.Need-wrapping-add-u32-requires
-wrapping-add-u32-requires c κs = search needs
 
 returns-2 : tie.Need-returns-2
 returns-2 c =
@@ -33,8 +24,8 @@ pub moved32-spec : {M : Type 1} → statement M
 moved32-spec =
     tie.close
     (tie.spec
-    extended-requires
-    wrapping-sub-u32-requires
+    (λ c κs. search needs)
+    (λ c κs. search needs)
     returns
-    wrapping-add-u32-requires
+    (λ c κs. search needs)
     returns-2)

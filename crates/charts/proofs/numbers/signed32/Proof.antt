@@ -4,12 +4,6 @@ use Rattle.charts.proofs.Twos.{low-signed, down-fits, down-narrow, high
 use Rattle.charts.proofs.numbers.signed32.Statement.{statement}
 use Rattle.charts.proofs.numbers.signed32.Tie as tie
 
-cast-result : tie.Need-cast-result
-cast-result c = search needs
-
-cast-result-2 : tie.Need-cast-result-2
-cast-result-2 c = search needs
-
 sub-result : tie.Need-sub-result
 sub-result c = down-fits (c .before .args .x) (c .if1 .left) (c .before .fits .x .fits)
 
@@ -24,4 +18,4 @@ returns-2 c = high-signed (c .before .args .x) (c .if1 .left) (c .before .fits .
 
 pub signed32-spec : {M : Type 1} → statement M
 signed32-spec =
-    tie.close (tie.spec cast-result cast-result-2 sub-result cast-result-3 returns returns-2)
+    tie.close (tie.spec (λ c. search needs) (λ c. search needs) sub-result cast-result-3 returns returns-2)

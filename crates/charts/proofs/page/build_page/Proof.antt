@@ -5,15 +5,6 @@ use Rattle.charts.proofs.Built.{built}
 use Rattle.charts.proofs.page.build_page.Statement.{statement}
 use Rattle.charts.proofs.page.build_page.Tie as tie
 
-write32-requires : tie.Need-write32-requires
-write32-requires c κs = search needs
-
-write-cells-requires : tie.Need-write-cells-requires
-write-cells-requires c κs = search needs
-
-same-length : tie.Need-same-length
-same-length c = search needs
-
 returns : tie.Need-returns
 returns c =
     let written = c .before .before in
@@ -22,4 +13,4 @@ returns c =
     written .write-cells .ensures ∙ rw (cleared .write32 .ensures) (built (start .args .p .now) _ (start .pre .0))
 
 pub build-page-spec : {M : Type 1} → statement M
-build-page-spec = tie.close (tie.spec write32-requires write-cells-requires same-length returns)
+build-page-spec = tie.close (tie.spec (λ c κs. search needs) (λ c κs. search needs) (λ c. search needs) returns)

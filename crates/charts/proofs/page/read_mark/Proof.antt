@@ -4,12 +4,9 @@ use Rattle.book.specs.Pages.{pageOf}
 use Rattle.charts.proofs.page.read_mark.Statement.{statement}
 use Rattle.charts.proofs.page.read_mark.Tie as tie
 
-read16-requires : tie.Need-read16-requires
-read16-requires c κs = search needs
-
 returns : tie.Need-returns
 unfolding pageOf
 returns c = c .read16 .ensures
 
 pub read-mark-spec : {M : Type 1} → statement M
-read-mark-spec = tie.close (tie.spec read16-requires returns)
+read-mark-spec = tie.close (tie.spec (λ c κs. search needs) returns)

@@ -19,15 +19,6 @@ long s = search needs
 right : (c : tie.Else1) → let x = c .before .before .before .before .before .before .args in fitting (length (x .log .now)) (length (x .charts .now)) (length (x .copy .now)) (x .n) ≡ true
 right c = sym (c .before .lengths-fit .ensures) ∙ not-false _ (c .if1 .left)
 
-is-typed-requires : tie.Need-is-typed-requires
-is-typed-requires c κs = search needs
-
-lengths-fit-requires : tie.Need-lengths-fit-requires
-lengths-fit-requires c κs = search needs
-
-out-with-requires : tie.Need-out-with-requires
-out-with-requires c κs = search needs
-
 returns : tie.Need-returns
 returns c =
     let s = c .before .before .before .before .before .before .before in
@@ -39,15 +30,6 @@ returns c =
 decide-requires : tie.Need-decide-requires
 decide-requires c κs =
     let x = c .before .before .before .before .before .before .before .before .before .args in fit (length (x .log .now)) (length (x .charts .now)) (length (x .copy .now)) (x .n) (right (c .before .before .before)) .0
-
-same-length : tie.Need-same-length
-same-length c = search needs
-
-same-length-2 : tie.Need-same-length-2
-same-length-2 c = search needs
-
-same-length-3 : tie.Need-same-length-3
-same-length-3 c = search needs
 
 returns-2 : tie.Need-returns-2
 returns-2 c =
@@ -62,12 +44,12 @@ pub call-core-spec : {M : Type 1} → statement M
 call-core-spec =
     tie.close
     (tie.spec
-    is-typed-requires
-    lengths-fit-requires
-    out-with-requires
+    (λ c κs. search needs)
+    (λ c κs. search needs)
+    (λ c κs. search needs)
     returns
     decide-requires
-    same-length
-    same-length-2
-    same-length-3
+    (λ c. search needs)
+    (λ c. search needs)
+    (λ c. search needs)
     returns-2)

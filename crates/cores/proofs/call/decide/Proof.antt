@@ -39,39 +39,6 @@ numbered c =
     ap refusedBy (right-number (x .state) (x .log .now) (x .charts .now) (x .copy .now) (x .table) (c .before .before .before .before .before .before .before .before .before .visits-into .last .1 .0) (c .before .before .before .before .before .before .flat-into .last .1 .0) (callOf (x .request))
     (c .before .before .before .before .before .before .before .before .before .visits-into .ensures) (c .before .before .before .before .before .before .flat-into .ensures) (s .pre) (long s))
 
-slice-aggregate-visits-into : tie.Need-slice-aggregate-visits-into
-slice-aggregate-visits-into c = search needs
-
-visits-into-requires : tie.Need-visits-into-requires
-visits-into-requires c κs = search needs
-
-slice-aggregate-flat-into : tie.Need-slice-aggregate-flat-into
-slice-aggregate-flat-into c = search needs
-
-flat-into-requires : tie.Need-flat-into-requires
-flat-into-requires c κs = search needs
-
-control-in-requires : tie.Need-control-in-requires
-control-in-requires c κs = search needs
-
-counts-in-requires : tie.Need-counts-in-requires
-counts-in-requires c κs = search needs
-
-slice-aggregate-check : tie.Need-slice-aggregate-check
-slice-aggregate-check c = search needs
-
-slice-aggregate-check-2 : tie.Need-slice-aggregate-check-2
-slice-aggregate-check-2 c = search needs
-
-check-requires : tie.Need-check-requires
-check-requires c κs = search needs
-
-number-of-requires : tie.Need-number-of-requires
-number-of-requires c κs = search needs
-
-out-with-requires : tie.Need-out-with-requires
-out-with-requires c κs = search needs
-
 returns : tie.Need-returns
 unfolding performed
 returns c =
@@ -81,14 +48,8 @@ returns c =
     rw (c .out-with .ensures)
     (when-refused (given s) (callOf (s .args .request)) _ _ (numbered k) (λ z. other (ap number (numbered k) ∙ z)), inr (refusal-case (k .check .result) other))
 
-slice-aggregate-accept : tie.Need-slice-aggregate-accept
-slice-aggregate-accept c = search needs
-
 slice-aggregate-accept-2 : tie.Need-slice-aggregate-accept-2
 slice-aggregate-accept-2 c = sym (tail-long (c .before .before .before .before .before .before .before .before .before .before .before .before .before .before .before .before .before .before .before .before .before .before .before .before))
-
-slice-aggregate-accept-3 : tie.Need-slice-aggregate-accept-3
-slice-aggregate-accept-3 c = search needs
 
 accept-requires : tie.Need-accept-requires
 accept-requires c κs =
@@ -110,24 +71,6 @@ accept-requires c κs =
       s .pre .charts-long,
     )
 
-slice-aggregate-out-after : tie.Need-slice-aggregate-out-after
-slice-aggregate-out-after c = search needs
-
-slice-aggregate-out-after-2 : tie.Need-slice-aggregate-out-after-2
-slice-aggregate-out-after-2 c = search needs
-
-out-after-requires : tie.Need-out-after-requires
-out-after-requires c κs = search needs
-
-same-length : tie.Need-same-length
-same-length c = search needs
-
-same-length-2 : tie.Need-same-length-2
-same-length-2 c = search needs
-
-same-length-3 : tie.Need-same-length-3
-same-length-3 c = search needs
-
 returns-2 : tie.Need-returns-2
 unfolding performed
 returns-2 c =
@@ -148,26 +91,26 @@ pub decide-spec : {M : Type 1} → statement M
 decide-spec =
     tie.close
     (tie.spec
-    slice-aggregate-visits-into
-    visits-into-requires
-    slice-aggregate-flat-into
-    flat-into-requires
-    control-in-requires
-    counts-in-requires
-    slice-aggregate-check
-    slice-aggregate-check-2
-    check-requires
-    number-of-requires
-    out-with-requires
+    (λ c. search needs)
+    (λ c κs. search needs)
+    (λ c. search needs)
+    (λ c κs. search needs)
+    (λ c κs. search needs)
+    (λ c κs. search needs)
+    (λ c. search needs)
+    (λ c. search needs)
+    (λ c κs. search needs)
+    (λ c κs. search needs)
+    (λ c κs. search needs)
     returns
-    slice-aggregate-accept
+    (λ c. search needs)
     slice-aggregate-accept-2
-    slice-aggregate-accept-3
+    (λ c. search needs)
     accept-requires
-    slice-aggregate-out-after
-    slice-aggregate-out-after-2
-    out-after-requires
-    same-length
-    same-length-2
-    same-length-3
+    (λ c. search needs)
+    (λ c. search needs)
+    (λ c κs. search needs)
+    (λ c. search needs)
+    (λ c. search needs)
+    (λ c. search needs)
     returns-2)

@@ -7,11 +7,8 @@ use Rattle.tables_model.specs.Meaning.{scopeOf}
 use Rattle.cores.proofs.entries.blank.Statement.{statement}
 use Rattle.cores.proofs.entries.blank.Tie as tie
 
-unused-requires : tie.Need-unused-requires
-unused-requires c κs = search needs
-
 returns : tie.Need-returns
 returns c = ap (λ (s : Scope). replicate 64 (scopeOf s)) (c .unused .ensures)
 
 pub blank-spec : {M : Type 1} → statement M
-blank-spec = tie.close (tie.spec unused-requires returns)
+blank-spec = tie.close (tie.spec (λ c κs. search needs) returns)

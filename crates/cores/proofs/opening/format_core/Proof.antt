@@ -22,12 +22,6 @@ long s = search needs
 right : (c : tie.Else1) → let x = c .before .before .before .before .before .args in fitting (length (x .log .now)) (length (x .charts .now)) (length (x .copy .now)) (x .n) ≡ true
 right c = sym (c .before .lengths-fit .ensures) ∙ not-false _ (c .if1 .left)
 
-lengths-fit-requires : tie.Need-lengths-fit-requires
-lengths-fit-requires c κs = search needs
-
-out-with-requires : tie.Need-out-with-requires
-out-with-requires c κs = search needs
-
 returns : tie.Need-returns
 returns c =
     let s = c .before .before .before .before .before .before in
@@ -40,18 +34,6 @@ format-requires c κs =
     let x = c .before .before .before .before .before .before .before .args in
     let lent = fit (length (x .log .now)) (length (x .charts .now)) (length (x .copy .now)) (x .n) (right (c .before .before)) .0 in (lent .log-long, lent .charts-long)
 
-number-of-requires : tie.Need-number-of-requires
-number-of-requires c κs = search needs
-
-out-with-requires-2 : tie.Need-out-with-requires-2
-out-with-requires-2 c κs = search needs
-
-same-length : tie.Need-same-length
-same-length c = search needs
-
-same-length-2 : tie.Need-same-length-2
-same-length-2 c = search needs
-
 returns-2 : tie.Need-returns-2
 returns-2 c =
     let s = c .before .before .before .before .before .before .before .before .before .before .before .before .before .before .before in
@@ -62,27 +44,6 @@ returns-2 c =
     rw (c .out-with2 .ensures)
     (right-kept (Formats (x .cells .now)) (x .state) (x .log .now) (x .charts .now) (x .copy .now) (x .n) (x .t) (long s) (right (c .before .before .before .before .before .before .before .before .before .before)) _ (x .t)
     (λ e. record { post = record { is = sym (format-refused (x .cells .now) w e (f .result) (f .last .1 .0) (f .last .1 .1 .0) (f .ensures .0) other) }; case = f .ensures .1 }))
-
-clear-requires : tie.Need-clear-requires
-clear-requires c κs = search needs
-
-closed-state-requires : tie.Need-closed-state-requires
-closed-state-requires c κs = search needs
-
-blank-requires : tie.Need-blank-requires
-blank-requires c κs = search needs
-
-out-with-requires-3 : tie.Need-out-with-requires-3
-out-with-requires-3 c κs = search needs
-
-same-length-3 : tie.Need-same-length-3
-same-length-3 c = search needs
-
-same-length-4 : tie.Need-same-length-4
-same-length-4 c = search needs
-
-same-length-5 : tie.Need-same-length-5
-same-length-5 c = search needs
 
 returns-3 : tie.Need-returns-3
 returns-3 c =
@@ -100,20 +61,20 @@ pub format-core-spec : {M : Type 1} → statement M
 format-core-spec =
     tie.close
     (tie.spec
-    lengths-fit-requires
-    out-with-requires
+    (λ c κs. search needs)
+    (λ c κs. search needs)
     returns
     format-requires
-    number-of-requires
-    out-with-requires-2
-    same-length
-    same-length-2
+    (λ c κs. search needs)
+    (λ c κs. search needs)
+    (λ c. search needs)
+    (λ c. search needs)
     returns-2
-    clear-requires
-    closed-state-requires
-    blank-requires
-    out-with-requires-3
-    same-length-3
-    same-length-4
-    same-length-5
+    (λ c κs. search needs)
+    (λ c κs. search needs)
+    (λ c κs. search needs)
+    (λ c κs. search needs)
+    (λ c. search needs)
+    (λ c. search needs)
+    (λ c. search needs)
     returns-3)

@@ -20,12 +20,6 @@ long s = search needs
 right : (c : tie.Else1) → let x = c .before .before .before .before .before .args in fitting (length (x .log .now)) (length (x .charts .now)) (length (x .copy .now)) (x .n) ≡ true
 right c = sym (c .before .lengths-fit .ensures) ∙ not-false _ (c .if1 .left)
 
-lengths-fit-requires : tie.Need-lengths-fit-requires
-lengths-fit-requires c κs = search needs
-
-out-with-requires : tie.Need-out-with-requires
-out-with-requires c κs = search needs
-
 returns : tie.Need-returns
 returns c =
     let s = c .before .before .before .before .before .before in
@@ -33,38 +27,11 @@ returns c =
     rw (c .out-with .ensures)
     (wrong-kept (Opens (x .fuse)) (x .state) (x .log .now) (x .charts .now) (x .copy .now) (x .n) (x .t) (long s) (sym (c .before .before .lengths-fit .ensures) ∙ not-true _ (c .before .if1 .taken)) (open-wrong (x .fuse)))
 
-slice-aggregate-open : tie.Need-slice-aggregate-open
-slice-aggregate-open c = search needs
-
-slice-aggregate-open-2 : tie.Need-slice-aggregate-open-2
-slice-aggregate-open-2 c = search needs
-
-slice-aggregate-open-3 : tie.Need-slice-aggregate-open-3
-slice-aggregate-open-3 c = search needs
-
 open-requires : tie.Need-open-requires
 open-requires c κs =
     let x = c .before .before .before .before .before .before .before .before .before .before .before .args in
     let lent = fit (length (x .log .now)) (length (x .charts .now)) (length (x .copy .now)) (x .n) (right (c .before .before .before .before .before .before)) .0 in
     record { log-long = lent .log-long; charts-long = lent .charts-long; copy-long = lent .copy-long; tail-long = refl; visits-long = refl; scopes-long = refl }
-
-slice-aggregate-out-after : tie.Need-slice-aggregate-out-after
-slice-aggregate-out-after c = search needs
-
-slice-aggregate-out-after-2 : tie.Need-slice-aggregate-out-after-2
-slice-aggregate-out-after-2 c = search needs
-
-out-after-requires : tie.Need-out-after-requires
-out-after-requires c κs = search needs
-
-same-length : tie.Need-same-length
-same-length c = search needs
-
-same-length-2 : tie.Need-same-length-2
-same-length-2 c = search needs
-
-same-length-3 : tie.Need-same-length-3
-same-length-3 c = search needs
 
 returns-2 : tie.Need-returns-2
 returns-2 c =
@@ -80,17 +47,17 @@ pub open-core-spec : {M : Type 1} → statement M
 open-core-spec =
     tie.close
     (tie.spec
-    lengths-fit-requires
-    out-with-requires
+    (λ c κs. search needs)
+    (λ c κs. search needs)
     returns
-    slice-aggregate-open
-    slice-aggregate-open-2
-    slice-aggregate-open-3
+    (λ c. search needs)
+    (λ c. search needs)
+    (λ c. search needs)
     open-requires
-    slice-aggregate-out-after
-    slice-aggregate-out-after-2
-    out-after-requires
-    same-length
-    same-length-2
-    same-length-3
+    (λ c. search needs)
+    (λ c. search needs)
+    (λ c κs. search needs)
+    (λ c. search needs)
+    (λ c. search needs)
+    (λ c. search needs)
     returns-2)

@@ -10,56 +10,17 @@ use borrow.Author.Needs.{needs}
 use Rattle.embed.proofs.head.put_head.Statement.{statement}
 use Rattle.embed.proofs.head.put_head.Tie as tie
 
-phase-number-requires : tie.Need-phase-number-requires
-phase-number-requires c κs = search needs
-
-slice-write-head : tie.Need-slice-write-head
-slice-write-head c = search needs
-
-kind-number-requires : tie.Need-kind-number-requires
-kind-number-requires c κs = search needs
-
-slice-write-head-2 : tie.Need-slice-write-head-2
-slice-write-head-2 c = search needs
-
-left-number-requires : tie.Need-left-number-requires
-left-number-requires c κs = search needs
-
-slice-write-head-3 : tie.Need-slice-write-head-3
-slice-write-head-3 c = search needs
-
-cast-head : tie.Need-cast-head
-cast-head c = search needs
-
-slice-write-head-4 : tie.Need-slice-write-head-4
-slice-write-head-4 c = search needs
-
-cast-head-2 : tie.Need-cast-head-2
-cast-head-2 c = search needs
-
 slice-write-head-5 : tie.Need-slice-write-head-5
 slice-write-head-5 c = simp length-set (omega (arith, c .before .before .before .before .before .before .pre .0))
-
-cast-head-3 : tie.Need-cast-head-3
-cast-head-3 c = search needs
 
 slice-write-head-6 : tie.Need-slice-write-head-6
 slice-write-head-6 c = simp length-set (omega (arith, c .before .before .before .before .before .before .before .pre .0))
 
-cast-head-4 : tie.Need-cast-head-4
-cast-head-4 c = search needs
-
 slice-write-head-7 : tie.Need-slice-write-head-7
 slice-write-head-7 c = simp length-set (omega (arith, c .before .before .before .before .before .before .before .before .pre .0))
 
-cast-head-5 : tie.Need-cast-head-5
-cast-head-5 c = search needs
-
 slice-write-head-8 : tie.Need-slice-write-head-8
 slice-write-head-8 c = simp length-set (omega (arith, c .before .before .before .before .before .before .before .before .before .pre .0))
-
-same-length : tie.Need-same-length
-same-length c = search needs
 
 returns : tie.Need-returns
 returns c =
@@ -78,21 +39,21 @@ pub put-head-spec : {M : Type 1} → statement M
 put-head-spec =
     tie.close
     (tie.spec
-    phase-number-requires
-    slice-write-head
-    kind-number-requires
-    slice-write-head-2
-    left-number-requires
-    slice-write-head-3
-    cast-head
-    slice-write-head-4
-    cast-head-2
+    (λ c κs. search needs)
+    (λ c. search needs)
+    (λ c κs. search needs)
+    (λ c. search needs)
+    (λ c κs. search needs)
+    (λ c. search needs)
+    (λ c. search needs)
+    (λ c. search needs)
+    (λ c. search needs)
     slice-write-head-5
-    cast-head-3
+    (λ c. search needs)
     slice-write-head-6
-    cast-head-4
+    (λ c. search needs)
     slice-write-head-7
-    cast-head-5
+    (λ c. search needs)
     slice-write-head-8
-    same-length
+    (λ c. search needs)
     returns)

@@ -25,12 +25,6 @@ fit c = sym (c .before .stored-fit .ensures) ∙ not-false _ (c .if1 .left)
 right : (c : tie.Else1) → rightLengths (worldIn (given (c .before .before .before .before .before .before .before .before .before))) ≡ true
 right c = let s = c .before .before .before .before .before .before .before .before .before in right-stored (given s) (s .pre) (fit c)
 
-stored-fit-requires : tie.Need-stored-fit-requires
-stored-fit-requires c κs = search needs
-
-packed-requires : tie.Need-packed-requires
-packed-requires c κs = search needs
-
 returns : tie.Need-returns
 returns c =
     let s = c .before .before .before .before .before .before .before .before .before .before in format-refused (given s) (s .pre) _ (c .packed .ensures) (wrong-stored (given s) (s .pre) (sym (c .before .before .stored-fit .ensures) ∙ not-true _ (c .before .if1 .taken))) _
@@ -38,49 +32,13 @@ returns c =
 format-requires : tie.Need-format-requires
 format-requires c κs = stored-lengths (given (c .before .before .before .before .before .before .before .before .before .before .before)) (fit (c .before .before))
 
-number-of-requires : tie.Need-number-of-requires
-number-of-requires c κs = search needs
-
-packed-requires-2 : tie.Need-packed-requires-2
-packed-requires-2 c κs = search needs
-
-same-length : tie.Need-same-length
-same-length c = search needs
-
-same-length-2 : tie.Need-same-length-2
-same-length-2 c = search needs
-
 returns-2 : tie.Need-returns-2
 returns-2 c =
     let s = c .before .before .before .before .before .before .before .before .before .before .before .before .before .before .before .before .before .before .before in
     refused-format (s .args .cells .now) (given s) (right (c .before .before .before .before .before .before .before .before .before .before)) (c .before .before .before .before .before .before .before .format .result) _ _ (c .before .before .before .before .before .before .before .format .ensures .0) (s .pre) _ (c .packed2 .ensures) (λ z. c .before .if2 .taken (c .before .before .number-of .ensures ∙ z))
 
-clear-ram-requires : tie.Need-clear-ram-requires
-clear-ram-requires c κs = search needs
-
 finish-requires : tie.Need-finish-requires
 finish-requires c κs = (c .before .before .before .before .before .before .before .before .before .before .before .before .before .before .before .before .before .before .before .before .before .before .before .before .before .before .before .before .before .before .before .before .pre .head, zero-bounded _ _ _ _ _ (c .before .before .before .before .before .before .before .before .before .clear-ram .ensures .1))
-
-same-length-3 : tie.Need-same-length-3
-same-length-3 c = search needs
-
-same-length-4 : tie.Need-same-length-4
-same-length-4 c = search needs
-
-same-length-5 : tie.Need-same-length-5
-same-length-5 c = search needs
-
-same-length-6 : tie.Need-same-length-6
-same-length-6 c = search needs
-
-same-length-7 : tie.Need-same-length-7
-same-length-7 c = search needs
-
-same-length-8 : tie.Need-same-length-8
-same-length-8 c = search needs
-
-same-length-9 : tie.Need-same-length-9
-same-length-9 c = search needs
 
 returns-3 : tie.Need-returns-3
 returns-3 c =
@@ -93,22 +51,22 @@ pub format-spec : {M : Type 1} → statement M
 format-spec =
     tie.close
     (tie.spec
-    stored-fit-requires
-    packed-requires
+    (λ c κs. search needs)
+    (λ c κs. search needs)
     returns
     format-requires
-    number-of-requires
-    packed-requires-2
-    same-length
-    same-length-2
+    (λ c κs. search needs)
+    (λ c κs. search needs)
+    (λ c. search needs)
+    (λ c. search needs)
     returns-2
-    clear-ram-requires
+    (λ c κs. search needs)
     finish-requires
-    same-length-3
-    same-length-4
-    same-length-5
-    same-length-6
-    same-length-7
-    same-length-8
-    same-length-9
+    (λ c. search needs)
+    (λ c. search needs)
+    (λ c. search needs)
+    (λ c. search needs)
+    (λ c. search needs)
+    (λ c. search needs)
+    (λ c. search needs)
     returns-3)

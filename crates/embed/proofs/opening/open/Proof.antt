@@ -26,18 +26,9 @@ fit c = sym (c .before .stored-fit .ensures) ∙ not-false _ (c .if1 .left)
 right : (c : tie.Else1) → rightLengths (worldIn (given (c .before .before .before .before .before .before .before .before .before))) ≡ true
 right c = let s = c .before .before .before .before .before .before .before .before .before in right-stored (given s) (s .pre) (fit c)
 
-stored-fit-requires : tie.Need-stored-fit-requires
-stored-fit-requires c κs = search needs
-
-packed-requires : tie.Need-packed-requires
-packed-requires c κs = search needs
-
 returns : tie.Need-returns
 returns c =
     let s = c .before .before .before .before .before .before .before .before .before .before in open-refused (given s) (s .pre) _ (c .packed .ensures) (wrong-stored (given s) (s .pre) (sym (c .before .before .stored-fit .ensures) ∙ not-true _ (c .before .if1 .taken))) _
-
-fuse-of-requires : tie.Need-fuse-of-requires
-fuse-of-requires c κs = search needs
 
 open-requires : tie.Need-open-requires
 open-requires c κs =
@@ -55,30 +46,12 @@ open-requires c κs =
 finish-requires : tie.Need-finish-requires
 finish-requires c κs = (c .before .before .before .before .before .before .before .before .before .before .before .before .before .before .before .before .before .before .before .before .before .before .before .before .before .before .before .pre .head, c .before .before .before .before .before .before .before .before .before .before .before .«open» .ensures .bounded)
 
-same-length : tie.Need-same-length
-same-length c = search needs
-
-same-length-2 : tie.Need-same-length-2
-same-length-2 c = search needs
-
-same-length-3 : tie.Need-same-length-3
-same-length-3 c = search needs
-
-same-length-4 : tie.Need-same-length-4
-same-length-4 c = search needs
-
-same-length-5 : tie.Need-same-length-5
-same-length-5 c = search needs
-
-same-length-6 : tie.Need-same-length-6
-same-length-6 c = search needs
-
 returns-2 : tie.Need-returns-2
 returns-2 c =
     let s = c .before .before .before .before .before .before .before .before .before .before .before .before .before .before .before .before .before .before .before .before .before .before .before .before .before .before .before .before .before .before in
     let e = c .before .before .finish .ensures in
     let o = c .before .before .before .before .before .before .before .before .before .before .before .before .before .before .«open» in
-    opening _ _ (c .before .before .before .before .before .before .before .before .before .before .before .before .before .before .before .before .before .before .before .before .fuse-of .ensures) (given s) (right (c .before .before .before .before .before .before .before .before .before .before .before .before .before .before .before .before .before .before .before .before .before)) (λ i. omega (arith, c .before .before .before .before .before .before .before .before .before .before .before .before .before .before .before .before .before .before .before .before .before .before .before .shared-slice-known .given i)) _ _ _ _ _ _ _ (o .ensures) (e .1) (e .2) (record {
+    opening _ _ (c .before .before .before .before .before .before .before .before .before .before .before .before .before .before .before .before .before .before .before .before .fuse-of-number .ensures) (given s) (right (c .before .before .before .before .before .before .before .before .before .before .before .before .before .before .before .before .before .before .before .before .before)) (λ i. omega (arith, c .before .before .before .before .before .before .before .before .before .before .before .before .before .before .before .before .before .before .before .before .before .before .before .shared-slice-known .given i)) _ _ _ _ _ _ _ (o .ensures) (e .1) (e .2) (record {
       head = c .before .before .finish .kept .0 ∙ s .pre .head;
       visits = o .kept .1 .1 .1 .1 .1 .0 ∙ s .pre .visits;
       scopes = o .kept .1 .1 .1 .1 .1 .1 .0 ∙ s .pre .scopes;
@@ -90,16 +63,16 @@ pub open-spec : {M : Type 1} → statement M
 open-spec =
     tie.close
     (tie.spec
-    stored-fit-requires
-    packed-requires
+    (λ c κs. search needs)
+    (λ c κs. search needs)
     returns
-    fuse-of-requires
+    (λ c κs. search needs)
     open-requires
     finish-requires
-    same-length
-    same-length-2
-    same-length-3
-    same-length-4
-    same-length-5
-    same-length-6
+    (λ c. search needs)
+    (λ c. search needs)
+    (λ c. search needs)
+    (λ c. search needs)
+    (λ c. search needs)
+    (λ c. search needs)
     returns-2)

@@ -9,18 +9,6 @@ use borrow.Author.Needs.{needs}
 use Rattle.embed.proofs.packed.joined.Statement.{statement}
 use Rattle.embed.proofs.packed.joined.Tie as tie
 
-mul-result : tie.Need-mul-result
-mul-result c = search needs
-
-bits32-requires : tie.Need-bits32-requires
-bits32-requires c κs = search needs
-
-cast-result : tie.Need-cast-result
-cast-result c = search needs
-
-add-result : tie.Need-add-result
-add-result c = search needs
-
 value-fits : (s : tie.Start) → SFits w32 (s .args .value)
 value-fits s = search needs
 
@@ -31,4 +19,4 @@ returns c =
     answer-packed (x .number) (x .value) (c .bits32 .result) (value-fits s) (c .bits32 .ensures ∙ ap (bitsOf 32) (toZ-ofZ (value-fits s)))
 
 pub joined-spec : {M : Type 1} → statement M
-joined-spec = tie.close (tie.spec mul-result bits32-requires cast-result add-result returns)
+joined-spec = tie.close (tie.spec (λ c. search needs) (λ c κs. search needs) (λ c. search needs) (λ c. search needs) returns)

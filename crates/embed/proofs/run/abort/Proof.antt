@@ -45,37 +45,10 @@ checked c = let x = c .before .before .before .before .before .before .before .b
 free : (c : tie.Else2) → let s = c .before .before .before .before .before .before .before .before .before .before .before .before .before .before .before .before .before in numberIn (given s) (call s) ≡ 0
 free c = let s = c .before .before .before .before .before .before .before .before .before .before .before .before .before .before .before .before .before in passes (call s) (given s) _ (checked (c .before .before)) (sym (c .before .number-of .ensures) ∙ c .if2 .left)
 
-stored-fit-requires : tie.Need-stored-fit-requires
-stored-fit-requires c κs = search needs
-
-packed-requires : tie.Need-packed-requires
-packed-requires c κs = search needs
-
 returns : tie.Need-returns
 returns c =
     let s = c .before .before .before .before .before .before .before .before .before .before in
     call-refused (given s) (long s) _ (c .packed .ensures) (wrong-stored (given s) (long s) (sym (c .before .before .stored-fit .ensures) ∙ not-true _ (c .before .if1 .taken))) (call s)
-
-control-in-requires : tie.Need-control-in-requires
-control-in-requires c κs = search needs
-
-counts-in-requires : tie.Need-counts-in-requires
-counts-in-requires c κs = search needs
-
-check-end-requires : tie.Need-check-end-requires
-check-end-requires c κs = search needs
-
-number-of-requires : tie.Need-number-of-requires
-number-of-requires c κs = search needs
-
-packed-requires-2 : tie.Need-packed-requires-2
-packed-requires-2 c κs = search needs
-
-same-length : tie.Need-same-length
-same-length c = search needs
-
-same-length-2 : tie.Need-same-length-2
-same-length-2 c = search needs
 
 returns-2 : tie.Need-returns-2
 returns-2 c =
@@ -90,24 +63,6 @@ accept-abort-requires c κs =
 
 finish-requires : tie.Need-finish-requires
 finish-requires c κs = let s = c .before .before .before .before .before .before .before .before .before .before .before .before .before .before .before .before .before .before .before .before .before .before .before .before .before .before .before .before .before .before .before .before .before .before in (long s .head, (c .before .before .before .before .before .before .before .before .before .before .before .accept-abort .ensures (s .args .charts .now)) .bounded)
-
-same-length-3 : tie.Need-same-length-3
-same-length-3 c = search needs
-
-same-length-4 : tie.Need-same-length-4
-same-length-4 c = search needs
-
-same-length-5 : tie.Need-same-length-5
-same-length-5 c = search needs
-
-same-length-6 : tie.Need-same-length-6
-same-length-6 c = search needs
-
-same-length-7 : tie.Need-same-length-7
-same-length-7 c = search needs
-
-same-length-8 : tie.Need-same-length-8
-same-length-8 c = search needs
 
 returns-3 : tie.Need-returns-3
 returns-3 c =
@@ -127,23 +82,23 @@ pub abort-spec : {M : Type 1} → statement M
 abort-spec =
     tie.close
     (tie.spec
-    stored-fit-requires
-    packed-requires
+    (λ c κs. search needs)
+    (λ c κs. search needs)
     returns
-    control-in-requires
-    counts-in-requires
-    check-end-requires
-    number-of-requires
-    packed-requires-2
-    same-length
-    same-length-2
+    (λ c κs. search needs)
+    (λ c κs. search needs)
+    (λ c κs. search needs)
+    (λ c κs. search needs)
+    (λ c κs. search needs)
+    (λ c. search needs)
+    (λ c. search needs)
     returns-2
     accept-abort-requires
     finish-requires
-    same-length-3
-    same-length-4
-    same-length-5
-    same-length-6
-    same-length-7
-    same-length-8
+    (λ c. search needs)
+    (λ c. search needs)
+    (λ c. search needs)
+    (λ c. search needs)
+    (λ c. search needs)
+    (λ c. search needs)
     returns-3)

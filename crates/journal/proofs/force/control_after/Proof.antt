@@ -1,11 +1,9 @@
 use Rattle.journal.proofs.force.control_after.Statement.{statement}
 use Rattle.journal.proofs.force.control_after.Tie as tie
 
--- src/force.rt:55:1
 returns : tie.Need-returns
 returns c = rw (c .if1 .taken)
 
--- src/force.rt:55:1
 returns-2 : tie.Need-returns-2
 returns-2 c = rw (c .if1 .left)
 

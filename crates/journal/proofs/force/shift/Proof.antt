@@ -14,39 +14,30 @@ Inv-loop tail₀ m gap keep i₀ tail i = (i ≤ keep) × (length tail ≡ lengt
 abbrev μ-loop : tie.MeasureT-loop
 μ-loop tail₀ m gap keep i₀ tail i = keep - i
 
--- src/force.rt:93:15
 mul-gap : tie.Need-mul-gap Inv-loop μ-loop
 mul-gap c = omega arith
 
--- src/force.rt:94:16
 sub-keep : tie.Need-sub-keep Inv-loop μ-loop
 sub-keep c = omega arith
 
--- src/force.rt:96:5
 loop-holds : tie.Need-loop-holds Inv-loop μ-loop
 loop-holds c = (omega arith, refl, refl)
 
--- src/force.rt:97:24
 add-tail : tie.Need-add-tail Inv-loop μ-loop
 add-tail c = omega arith
 
--- src/force.rt:97:19
 slice-read-tail : tie.Need-slice-read-tail Inv-loop μ-loop
 slice-read-tail c = omega arith
 
--- src/force.rt:97:9
 slice-write-tail : tie.Need-slice-write-tail Inv-loop μ-loop
 slice-write-tail c = omega arith
 
--- src/force.rt:98:9
 add-i : tie.Need-add-i Inv-loop μ-loop
 add-i c = omega arith
 
--- src/force.rt:96:5
 loop-less : tie.Need-loop-less Inv-loop μ-loop
 loop-less c = omega arith
 
--- src/force.rt:96:5
 loop-again : tie.Need-loop-again Inv-loop μ-loop
 loop-again c =
     let l = c .before .before .loop in
@@ -54,27 +45,15 @@ loop-again c =
     let step = moved-more (16 * a .m) (l .i) (a .tail .now) (omega arith) in
     (omega arith, simp length-set (l .inv .1), ap (λ (x : List ℕ). set x (l .i) (getD x (l .i + 16 * a .m) 0)) (l .inv .2) ∙ step)
 
--- src/force.rt:100:11
 sub-clear : tie.Need-sub-clear Inv-loop μ-loop
 sub-clear c = omega arith
 
--- src/force.rt:100:11
 part-clear-start : tie.Need-part-clear-start Inv-loop μ-loop
 part-clear-start c = omega arith
 
--- src/force.rt:100:11
 part-clear-end : tie.Need-part-clear-end Inv-loop μ-loop
 part-clear-end c = omega arith
 
--- src/force.rt:100:5
-clear-requires : tie.Need-clear-requires Inv-loop μ-loop
-clear-requires c κs = search needs
-
--- src/force.rt:89:1
-same-length : tie.Need-same-length Inv-loop μ-loop
-same-length c = search needs
-
--- src/force.rt:89:1
 returns : tie.Need-returns Inv-loop μ-loop
 returns c =
     let l = c .before .before .before .before .before .loop in
@@ -106,6 +85,6 @@ shift-spec =
     sub-clear
     part-clear-start
     part-clear-end
-    clear-requires
-    same-length
+    (λ c κs. search needs)
+    (λ c. search needs)
     returns)

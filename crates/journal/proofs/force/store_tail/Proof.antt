@@ -19,52 +19,37 @@ Inv-loop stored m log₀ tail fuse₀ j₀ log fuse j =
 abbrev μ-loop : tie.MeasureT-loop
 μ-loop stored m log₀ tail fuse₀ j₀ log fuse j = m - j
 
--- src/force.rt:29:5
 loop-holds : tie.Need-loop-holds Inv-loop μ-loop
 loop-holds c = (search needs, refl, rw (add-zero, sub-zero))
 
--- src/force.rt:30:17
 mul-a : tie.Need-mul-a Inv-loop μ-loop
 mul-a c = omega arith
 
--- src/force.rt:31:17
 add-e : tie.Need-add-e Inv-loop μ-loop
 add-e c = omega arith
 
--- src/force.rt:32:33
 add-store-row : tie.Need-add-store-row Inv-loop μ-loop
 add-store-row c = omega arith
 
--- src/force.rt:32:50
 sub-store-row : tie.Need-sub-store-row Inv-loop μ-loop
 sub-store-row c = omega arith
 
--- src/force.rt:32:50
 part-store-row-start : tie.Need-part-store-row-start Inv-loop μ-loop
 part-store-row-start c = omega arith
 
--- src/force.rt:32:50
 part-store-row-end : tie.Need-part-store-row-end Inv-loop μ-loop
 part-store-row-end c = omega arith
 
--- src/force.rt:32:13
 store-row-requires : tie.Need-store-row-requires Inv-loop μ-loop
 store-row-requires c κs =
     (omega arith, simp (length-take, length-drop) (omega arith))
 
--- src/force.rt:34:26
-enum-known-s : tie.Need-enum-known-s Inv-loop μ-loop
-enum-known-s c = search needs
-
--- src/force.rt:36:17
 add-j : tie.Need-add-j Inv-loop μ-loop
 add-j c = omega arith
 
--- src/force.rt:29:5
 loop-less : tie.Need-loop-less Inv-loop μ-loop
 loop-less c = omega arith
 
--- src/force.rt:29:5
 loop-again : tie.Need-loop-again Inv-loop μ-loop
 loop-again c =
     let l = c .before .before .before .before .before .before .before .before .before .loop in
@@ -73,19 +58,12 @@ loop-again c =
     let e : 16 * l .j + 16 - 16 * l .j ≡ 16 = omega arith in
     (omega arith, s .kept .1 .1 .0 ∙ l .inv .1, l .inv .2 ∙ turn _ _ _ _ _ _ _ (omega arith) t ∙ rw (s .ensures .1, t, e))
 
--- src/force.rt:41:29
-enum-told : tie.Need-enum-told Inv-loop μ-loop
-enum-told c = search needs
-
--- src/force.rt:41:29
 add-t20 : tie.Need-add-t20 Inv-loop μ-loop
 add-t20 c = omega arith
 
--- src/force.rt:39:17
 same-length : tie.Need-same-length Inv-loop μ-loop
 same-length c = let l = c .before .before .before .before .before .before .before .before .loop in c .before .before .before .before .store-row .kept .1 .1 .0 ∙ l .inv .1
 
--- src/force.rt:39:17
 returns : tie.Need-returns Inv-loop μ-loop
 returns c =
     let l = c .before .before .before .before .before .before .before .before .loop in
@@ -93,15 +71,12 @@ returns c =
     let e = l .inv .2 ∙ turn-cut _ _ _ _ _ _ (omega arith) (sym (s .ensures .0) ∙ c .enum-told .given .1) in
     (sym (ap (λ (o : Ran). o .run) e), rw (s .ensures .1, ← (s .ensures .0), c .enum-told .given .1) (sym (ap (λ (o : Ran). o .log) e)))
 
--- src/force.rt:49:17
 add-t21 : tie.Need-add-t21 Inv-loop μ-loop
 add-t21 c = omega arith
 
--- src/force.rt:22:1
 same-length-2 : tie.Need-same-length-2 Inv-loop μ-loop
 same-length-2 c = c .before .loop .inv .1
 
--- src/force.rt:22:1
 returns-2 : tie.Need-returns-2 Inv-loop μ-loop
 returns-2 c =
     let l = c .before .loop in
@@ -122,11 +97,11 @@ store-tail-spec =
     part-store-row-start
     part-store-row-end
     store-row-requires
-    enum-known-s
+    (λ c. search needs)
     add-j
     loop-less
     loop-again
-    enum-told
+    (λ c. search needs)
     add-t20
     same-length
     returns

@@ -4,9 +4,6 @@ use borrow.Author.Needs.{needs}
 use Rattle.journal.proofs.lengths.lengths_fit.Statement.{statement}
 use Rattle.journal.proofs.lengths.lengths_fit.Tie as tie
 
-stored-fit-requires : tie.Need-stored-fit-requires
-stored-fit-requires c κs = search needs
-
 returns : tie.Need-returns
 returns c = rw (← c .before .stored-fit .ensures, not-true (c .before .stored-fit .result) (c .if1 .taken))
 
@@ -19,4 +16,4 @@ returns-3 c =
     rw (← c .before .before .stored-fit .ensures, not-false (c .before .before .stored-fit .result) (c .before .if1 .left), eq-eqb _ _ (c .if2 .left))
 
 pub lengths-fit-spec : {M : Type 1} → statement M
-lengths-fit-spec = tie.close (tie.spec stored-fit-requires returns returns-2 returns-3)
+lengths-fit-spec = tie.close (tie.spec (λ c κs. search needs) returns returns-2 returns-3)

@@ -10,48 +10,6 @@ use borrow.Author.Needs.{needs}
 use Rattle.journal.proofs.writes.store_page.Statement.{statement}
 use Rattle.journal.proofs.writes.store_page.Tie as tie
 
-spend-requires : tie.Need-spend-requires
-spend-requires c κs = search needs
-
-enum-told : tie.Need-enum-told
-enum-told c = search needs
-
-mul-at : tie.Need-mul-at
-mul-at c = search needs
-
-add-put-sixteen : tie.Need-add-put-sixteen
-add-put-sixteen c = search needs
-
-sub-put-sixteen : tie.Need-sub-put-sixteen
-sub-put-sixteen c = search needs
-
-part-put-sixteen-start : tie.Need-part-put-sixteen-start
-part-put-sixteen-start c = search needs
-
-part-put-sixteen-end : tie.Need-part-put-sixteen-end
-part-put-sixteen-end c = search needs
-
-put-sixteen-requires : tie.Need-put-sixteen-requires
-put-sixteen-requires c κs = search needs
-
-sub-put-sixteen-2 : tie.Need-sub-put-sixteen-2
-sub-put-sixteen-2 c = search needs
-
-part-put-sixteen-start-2 : tie.Need-part-put-sixteen-start-2
-part-put-sixteen-start-2 c = search needs
-
-part-put-sixteen-end-2 : tie.Need-part-put-sixteen-end-2
-part-put-sixteen-end-2 c = search needs
-
-put-sixteen-requires-2 : tie.Need-put-sixteen-requires-2
-put-sixteen-requires-2 c κs = search needs
-
-enum-told-2 : tie.Need-enum-told-2
-enum-told-2 c = search needs
-
-same-length : tie.Need-same-length
-same-length c = search needs
-
 returns : tie.Need-returns
 returns c =
     let e = c .before .before .before .before .before .before .before .before .before .before in
@@ -68,26 +26,23 @@ returns c =
     let f = rw one at (c .before .before .put-sixteen2 .ensures) in
     (s .spend .ensures, rw (← (s .spend .ensures), e .enum-told .given .1, f, both, whole))
 
-returns-2 : tie.Need-returns-2
-returns-2 c = search needs
-
 pub store-page-spec : {M : Type 1} → statement M
 store-page-spec =
     tie.close
     (tie.spec
-    spend-requires
-    enum-told
-    mul-at
-    add-put-sixteen
-    sub-put-sixteen
-    part-put-sixteen-start
-    part-put-sixteen-end
-    put-sixteen-requires
-    sub-put-sixteen-2
-    part-put-sixteen-start-2
-    part-put-sixteen-end-2
-    put-sixteen-requires-2
-    enum-told-2
-    same-length
+    (λ c κs. search needs)
+    (λ c. search needs)
+    (λ c. search needs)
+    (λ c. search needs)
+    (λ c. search needs)
+    (λ c. search needs)
+    (λ c. search needs)
+    (λ c κs. search needs)
+    (λ c. search needs)
+    (λ c. search needs)
+    (λ c. search needs)
+    (λ c κs. search needs)
+    (λ c. search needs)
+    (λ c. search needs)
     returns
-    returns-2)
+    (λ c. search needs))

@@ -8,8 +8,8 @@ use Rattle.book.specs.Rows.{Row}
 use Rattle.tables_model.specs.declared.Active.{Active}
 use Rattle.tables_model.specs.Layout.{actives}
 use Rattle.tables_model.specs.Meaning.{vacant}
-use Rattle.undo.proofs.Counters.{counters, counters-written, fits-again}
-use Rattle.undo.specs.Writing.{ram, Fits, written}
+use Rattle.wal.proofs.Counters.{counters, counters-written, fits-again}
+use Rattle.wal.specs.Writing.{ram, Fits, written}
 use Rattle.recovery_model.specs.Backward.{abortAll}
 use Rattle.recovery.proofs.BackwardSteps.{abort-turn, abort-end}
 use Rattle.recovery.proofs.backward.abort_all.Statement.{statement}

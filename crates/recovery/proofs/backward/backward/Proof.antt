@@ -8,9 +8,9 @@ use borrow.Author.Needs.{needs}
 use Rattle.state.specs.declared.ram.Phase.the-variants.{Open}
 use Rattle.tables_model.specs.declared.Whom.the-variants.{All}
 use Rattle.tables_model.specs.Layout.{actives}
-use Rattle.undo.proofs.Counters.{Counters, counters, counters-fallAll, fits-again}
-use Rattle.undo.specs.TakeBack.{taking}
-use Rattle.undo.specs.Writing.{ram, Fits}
+use Rattle.wal.proofs.Counters.{Counters, counters, counters-fallAll, fits-again}
+use Rattle.wal.specs.TakeBack.{taking}
+use Rattle.wal.specs.Writing.{ram, Fits}
 use Rattle.recovery.proofs.BackwardSteps.{counters-aborted, three-steps}
 use Rattle.recovery.proofs.backward.backward.Statement.{statement}
 use Rattle.recovery.proofs.backward.backward.Tie as tie
@@ -55,18 +55,6 @@ force-requires c κs =
       room = n .room;
     }
 
-same-length : tie.Need-same-length
-same-length c = search needs
-
-same-length-2 : tie.Need-same-length-2
-same-length-2 c = search needs
-
-same-length-3 : tie.Need-same-length-3
-same-length-3 c = search needs
-
-same-length-4 : tie.Need-same-length-4
-same-length-4 c = search needs
-
 returns : tie.Need-returns
 returns c =
     let f = c .before .before .before .before in
@@ -82,8 +70,8 @@ backward-spec =
     take-back-requires
     abort-all-requires
     force-requires
-    same-length
-    same-length-2
-    same-length-3
-    same-length-4
+    (λ c. search needs)
+    (λ c. search needs)
+    (λ c. search needs)
+    (λ c. search needs)
     returns)

@@ -12,27 +12,9 @@ returns : tie.Need-returns
 unfolding formatBytes
 returns c = (rw (ne-eqb _ _ (c .if1 .taken)), inr refl)
 
-bad-cell-requires : tie.Need-bad-cell-requires
-bad-cell-requires c κs = search needs
-
-cast-t7 : tie.Need-cast-t7
-cast-t7 c = search needs
-
 returns-2 : tie.Need-returns-2
 unfolding formatBytes
 returns-2 c = (rw (eq-eqb _ _ (c .before .before .if1 .left), ← (c .before .bad-cell .ensures), lt-ltb _ _ (c .if2 .taken)), inr refl)
-
-build-charts-requires : tie.Need-build-charts-requires
-build-charts-requires c κs = search needs
-
-clear-requires : tie.Need-clear-requires
-clear-requires c κs = search needs
-
-same-length : tie.Need-same-length
-same-length c = search needs
-
-same-length-2 : tie.Need-same-length-2
-same-length-2 c = search needs
 
 returns-3 : tie.Need-returns-3
 returns-3 c =
@@ -51,11 +33,11 @@ format-spec =
     tie.close
     (tie.spec
     returns
-    bad-cell-requires
-    cast-t7
+    (λ c κs. search needs)
+    (λ c. search needs)
     returns-2
-    build-charts-requires
-    clear-requires
-    same-length
-    same-length-2
+    (λ c κs. search needs)
+    (λ c κs. search needs)
+    (λ c. search needs)
+    (λ c. search needs)
     returns-3)

@@ -8,23 +8,11 @@ use Rattle.recovery.proofs.LookUps.{before-in-log}
 use Rattle.recovery.proofs.look.before_found.Statement.{statement}
 use Rattle.recovery.proofs.look.before_found.Tie as tie
 
-enum-known-found : tie.Need-enum-known-found
-enum-known-found c = search needs
-
 entry-at-requires : tie.Need-entry-at-requires
 entry-at-requires c κs =
     let s = c .before .before .before .before .before in
     let k : Reaches _ (At (c .before .found .given .0 .0)) = rw (c .before .found .given .1) at (s .pre .1) in
     record { long = k .0; below = k .1 }
-
-before-last-in-requires : tie.Need-before-last-in-requires
-before-last-in-requires c κs = search needs
-
-cast-t9 : tie.Need-cast-t9
-cast-t9 c = search needs
-
-enum-told : tie.Need-enum-told
-enum-told c = search needs
 
 returns : tie.Need-returns
 returns c =
@@ -32,10 +20,7 @@ returns c =
     rw (c .before .before .before .found .given .1, ← (c .before .entry-at .ensures))
     (c .before-last-in .ensures .0 ∙ before-in-log (s .args .log .now) (s .args .k) (scopeIn (c .before .entry-at .result)))
 
-returns-2 : tie.Need-returns-2
-returns-2 c = search needs
-
 pub before-found-spec : {M : Type 1} → statement M
 before-found-spec =
     tie.close
-    (tie.spec enum-known-found entry-at-requires before-last-in-requires cast-t9 enum-told returns returns-2)
+    (tie.spec (λ c. search needs) entry-at-requires (λ c κs. search needs) (λ c. search needs) (λ c. search needs) returns (λ c. search needs))

@@ -4,15 +4,6 @@ use borrow.Author.Needs.{needs}
 use Rattle.recovery.proofs.open.bad_row.Statement.{statement}
 use Rattle.recovery.proofs.open.bad_row.Tie as tie
 
-enum-told : tie.Need-enum-told
-enum-told c = search needs
-
-enum-told-2 : tie.Need-enum-told-2
-enum-told-2 c = search needs
-
-enum-told-3 : tie.Need-enum-told-3
-enum-told-3 c = search needs
-
 returns : tie.Need-returns
 returns c = (rw (c .enum-told .given .1), refl)
 
@@ -23,4 +14,4 @@ returns-3 : tie.Need-returns-3
 returns-3 c = (rw (c .enum-told3 .given .1), refl)
 
 pub bad-row-spec : {M : Type 1} → statement M
-bad-row-spec = tie.close (tie.spec enum-told enum-told-2 enum-told-3 returns returns-2 returns-3)
+bad-row-spec = tie.close (tie.spec (λ c. search needs) (λ c. search needs) (λ c. search needs) returns returns-2 returns-3)

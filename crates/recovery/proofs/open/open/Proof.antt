@@ -7,9 +7,6 @@ use Rattle.recovery.proofs.Settling.{opening-as}
 use Rattle.recovery.proofs.open.open.Statement.{statement}
 use Rattle.recovery.proofs.open.open.Tie as tie
 
-scan-log-requires : tie.Need-scan-log-requires
-scan-log-requires c κs = search needs
-
 open-scanned-requires : tie.Need-open-scanned-requires
 open-scanned-requires c κs =
     let scan = c .before .before .before .before .before .before .before .before .before in
@@ -29,21 +26,6 @@ open-scanned-requires c κs =
       (b .bad, l .charts-long),
     )
 
-same-length : tie.Need-same-length
-same-length c = search needs
-
-same-length-2 : tie.Need-same-length-2
-same-length-2 c = search needs
-
-same-length-3 : tie.Need-same-length-3
-same-length-3 c = search needs
-
-same-length-4 : tie.Need-same-length-4
-same-length-4 c = search needs
-
-same-length-5 : tie.Need-same-length-5
-same-length-5 c = search needs
-
 returns : tie.Need-returns
 returns c =
     let opened = c .before .before .before .before .before .before .before .before .before .before in
@@ -55,11 +37,11 @@ pub open-spec : {M : Type 1} → statement M
 open-spec =
     tie.close
     (tie.spec
-    scan-log-requires
+    (λ c κs. search needs)
     open-scanned-requires
-    same-length
-    same-length-2
-    same-length-3
-    same-length-4
-    same-length-5
+    (λ c. search needs)
+    (λ c. search needs)
+    (λ c. search needs)
+    (λ c. search needs)
+    (λ c. search needs)
     returns)

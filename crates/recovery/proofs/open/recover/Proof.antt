@@ -8,15 +8,6 @@ use Rattle.recovery.proofs.Settling.{opening-as}
 use Rattle.recovery.proofs.open.recover.Statement.{statement}
 use Rattle.recovery.proofs.open.recover.Tie as tie
 
-copy-requires : tie.Need-copy-requires
-copy-requires c κs = search needs
-
-redo-requires : tie.Need-redo-requires
-redo-requires c κs = search needs
-
-clear-requires : tie.Need-clear-requires
-clear-requires c κs = search needs
-
 backward-requires : tie.Need-backward-requires
 backward-requires c κs =
     let cut = c .before .before .before .before .before .before .before in
@@ -56,9 +47,6 @@ settle-requires c κs =
       ),
     )
 
-same-length : tie.Need-same-length
-same-length c = search needs
-
 same-length-2 : tie.Need-same-length-2
 same-length-2 c =
     let settled = c .before .before .before .before .before .before .before .before in
@@ -71,12 +59,6 @@ same-length-3 c =
     let settled = c .before .before .before .before .before .before .before .before in
     let back = settled .before .before .before .before .before .before .before .before .before .before .before .before .before in
     settled .settle .kept .1 .1 .1 .1 .0 ∙ back .backward .kept .1 .1 .1 .0 ∙ back .before .before .before .before .before .before .before .before .clear .kept .0
-
-same-length-4 : tie.Need-same-length-4
-same-length-4 c = search needs
-
-same-length-5 : tie.Need-same-length-5
-same-length-5 c = search needs
 
 returns : tie.Need-returns
 returns c =
@@ -92,14 +74,14 @@ pub recover-spec : {M : Type 1} → statement M
 recover-spec =
     tie.close
     (tie.spec
-    copy-requires
-    redo-requires
-    clear-requires
+    (λ c κs. search needs)
+    (λ c κs. search needs)
+    (λ c κs. search needs)
     backward-requires
     settle-requires
-    same-length
+    (λ c. search needs)
     same-length-2
     same-length-3
-    same-length-4
-    same-length-5
+    (λ c. search needs)
+    (λ c. search needs)
     returns)

@@ -6,48 +6,12 @@ use Rattle.recovery.proofs.Settling.{opening-refused, opening-ready}
 use Rattle.recovery.proofs.open.settle.Statement.{statement}
 use Rattle.recovery.proofs.open.settle.Tie as tie
 
-enum-told : tie.Need-enum-told
-enum-told c = search needs
-
-clear-ram-requires : tie.Need-clear-ram-requires
-clear-ram-requires c κs = search needs
-
-same-length : tie.Need-same-length
-same-length c = search needs
-
-same-length-2 : tie.Need-same-length-2
-same-length-2 c = search needs
-
-same-length-3 : tie.Need-same-length-3
-same-length-3 c = search needs
-
-same-length-4 : tie.Need-same-length-4
-same-length-4 c = search needs
-
 returns : tie.Need-returns
 unfolding settledOpening
 returns c =
     let closed = c .before .before .before .before .before .before .before .before in
     let z = closed .clear-ram .ensures in
     λ log charts. opening-refused _ _ log charts _ _ _ _ (rw (z .0)) (z .1) (rw (z .0, closed .before .before .before .before .before .enum-told .given .1))
-
-enum-told-2 : tie.Need-enum-told-2
-enum-told-2 c = search needs
-
-rows-written-requires : tie.Need-rows-written-requires
-rows-written-requires c κs = search needs
-
-clear-requires : tie.Need-clear-requires
-clear-requires c κs = search needs
-
-clear-requires-2 : tie.Need-clear-requires-2
-clear-requires-2 c κs = search needs
-
-same-length-5 : tie.Need-same-length-5
-same-length-5 c = search needs
-
-same-length-6 : tie.Need-same-length-6
-same-length-6 c = search needs
 
 returns-2 : tie.Need-returns-2
 returns-2 c =
@@ -64,17 +28,17 @@ pub settle-spec : {M : Type 1} → statement M
 settle-spec =
     tie.close
     (tie.spec
-    enum-told
-    clear-ram-requires
-    same-length
-    same-length-2
-    same-length-3
-    same-length-4
+    (λ c. search needs)
+    (λ c κs. search needs)
+    (λ c. search needs)
+    (λ c. search needs)
+    (λ c. search needs)
+    (λ c. search needs)
     returns
-    enum-told-2
-    rows-written-requires
-    clear-requires
-    clear-requires-2
-    same-length-5
-    same-length-6
+    (λ c. search needs)
+    (λ c κs. search needs)
+    (λ c κs. search needs)
+    (λ c κs. search needs)
+    (λ c. search needs)
+    (λ c. search needs)
     returns-2)

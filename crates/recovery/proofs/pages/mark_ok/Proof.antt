@@ -12,18 +12,6 @@ use Rattle.recovery.proofs.pages.mark_ok.Tie as tie
 returns : tie.Need-returns
 returns c = rw (eq-eqb _ _ (c .if1 .taken))
 
-cast-row-of-part : tie.Need-cast-row-of-part
-cast-row-of-part c = search needs
-
-row-of-part-requires : tie.Need-row-of-part-requires
-row-of-part-requires c κs = search needs
-
-effect-of-requires : tie.Need-effect-of-requires
-effect-of-requires c κs = search needs
-
-touches-page-requires : tie.Need-touches-page-requires
-touches-page-requires c κs = search needs
-
 returns-2 : tie.Need-returns-2
 returns-2 c =
     let a = c .before .before .before .before .before .before .before .args in
@@ -35,8 +23,8 @@ mark-ok-spec =
     tie.close
     (tie.spec
     returns
-    cast-row-of-part
-    row-of-part-requires
-    effect-of-requires
-    touches-page-requires
+    (λ c. search needs)
+    (λ c κs. search needs)
+    (λ c κs. search needs)
+    (λ c κs. search needs)
     returns-2)

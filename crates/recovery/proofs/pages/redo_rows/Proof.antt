@@ -9,7 +9,7 @@ use lib.ListN.{length, getD, length-take, length-drop}
 use lib.Seq.{getD-take, getD-drop}
 use Rattle.book.specs.Rows.{effect}
 use Rattle.book.specs.RowBytes.{rowOf}
-use Rattle.undo.specs.Looking.{rowBytesAt}
+use Rattle.wal.specs.Looking.{rowBytesAt}
 use Rattle.recovery_model.specs.Charts.{pageRedone, redoFrom}
 use Rattle.recovery.proofs.PageTurns.{redone-here, redone-elsewhere, redone-length, redo-turn, redo-end}
 use Rattle.recovery.proofs.pages.redo_rows.Statement.{statement}
@@ -39,9 +39,6 @@ add-wrapping-sub-u8 c = omega arith
 
 shared-slice-read-wrapping-sub-u8 : tie.Need-shared-slice-read-wrapping-sub-u8 Inv-loop μ-loop
 shared-slice-read-wrapping-sub-u8 c = omega arith
-
-wrapping-sub-u8-requires : tie.Need-wrapping-sub-u8-requires Inv-loop μ-loop
-wrapping-sub-u8-requires c κs = search needs
 
 add-e : tie.Need-add-e Inv-loop μ-loop
 add-e c = omega arith
@@ -105,7 +102,7 @@ redo-rows-spec =
     mul-a
     add-wrapping-sub-u8
     shared-slice-read-wrapping-sub-u8
-    wrapping-sub-u8-requires
+    (λ c κs. search needs)
     add-e
     sub-redo-row
     part-redo-row-start

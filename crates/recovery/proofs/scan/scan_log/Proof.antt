@@ -11,15 +11,6 @@ use Rattle.recovery.proofs.ScanTurns.{all-rows, bad-row}
 use Rattle.recovery.proofs.scan.scan_log.Statement.{statement}
 use Rattle.recovery.proofs.scan.scan_log.Tie as tie
 
-clear-requires : tie.Need-clear-requires
-clear-requires c κs = search needs
-
-clear-requires-2 : tie.Need-clear-requires-2
-clear-requires-2 c κs = search needs
-
-no-counts-requires : tie.Need-no-counts-requires
-no-counts-requires c κs = search needs
-
 scan-rows-requires : tie.Need-scan-rows-requires
 scan-rows-requires c κs =
     let cleared = c .before .before .before .before .before in
@@ -43,23 +34,8 @@ started c =
     c .scan-rows .ensures ∙
     rw (c .before .before .before .no-counts .ensures, first .clear .ensures, cleared .clear2 .ensures, actives-zero _ (long .0), entries-zero _ (long .1))
 
-first-set-requires : tie.Need-first-set-requires
-first-set-requires c κs = search needs
-
-same-length : tie.Need-same-length
-same-length c = search needs
-
-same-length-2 : tie.Need-same-length-2
-same-length-2 c = search needs
-
 returns : tie.Need-returns
 returns c = all-rows _ _ _ (started (c .before .before .before .before .before .before .before .before)) (c .before .before .if1 .taken) _ (c .before .first-set .ensures)
-
-same-length-3 : tie.Need-same-length-3
-same-length-3 c = search needs
-
-same-length-4 : tie.Need-same-length-4
-same-length-4 c = search needs
 
 returns-2 : tie.Need-returns-2
 returns-2 c = bad-row _ _ _ (started (c .before .before .before .before .before .before)) (c .if1 .left)
@@ -68,14 +44,14 @@ pub scan-log-spec : {M : Type 1} → statement M
 scan-log-spec =
     tie.close
     (tie.spec
-    clear-requires
-    clear-requires-2
-    no-counts-requires
+    (λ c κs. search needs)
+    (λ c κs. search needs)
+    (λ c κs. search needs)
     scan-rows-requires
-    first-set-requires
-    same-length
-    same-length-2
+    (λ c κs. search needs)
+    (λ c. search needs)
+    (λ c. search needs)
     returns
-    same-length-3
-    same-length-4
+    (λ c. search needs)
+    (λ c. search needs)
     returns-2)

@@ -35,9 +35,6 @@ judge-row-requires c κs =
       record { range = l .inv .3; visits-long = l .inv .1 ∙ p .1 .visits-long; long = l .inv .2 ∙ p .1 .long },
     )
 
-enum-told : tie.Need-enum-told Inv-loop μ-loop
-enum-told c = search needs
-
 add-k : tie.Need-add-k Inv-loop μ-loop
 add-k c = omega arith
 
@@ -57,9 +54,6 @@ loop-again c =
       l .inv .4 ∙ taken-turn _ _ _ _ (omega arith) (j .ensures) (c .enum-told .given .1),
     )
 
-enum-told-2 : tie.Need-enum-told-2 Inv-loop μ-loop
-enum-told-2 c = search needs
-
 same-length : tie.Need-same-length Inv-loop μ-loop
 same-length c =
     let j = c .before .before .before .before .before .before .before in
@@ -74,9 +68,6 @@ returns : tie.Need-returns Inv-loop μ-loop
 returns c =
     let j = c .before .before .before .before .before .before .before in
     sym (j .before .before .before .before .loop .inv .4 ∙ ends-turn _ _ _ _ (omega arith) (j .judge-row .ensures) (c .enum-told2 .given .1))
-
-enum-known-judged : tie.Need-enum-known-judged Inv-loop μ-loop
-enum-known-judged c = search needs
 
 add-t17 : tie.Need-add-t17 Inv-loop μ-loop
 add-t17 c = omega arith
@@ -113,15 +104,15 @@ scan-rows-spec =
     μ-loop
     loop-holds
     judge-row-requires
-    enum-told
+    (λ c. search needs)
     add-k
     loop-less
     loop-again
-    enum-told-2
+    (λ c. search needs)
     same-length
     same-length-2
     returns
-    enum-known-judged
+    (λ c. search needs)
     add-t17
     same-length-3
     same-length-4

@@ -17,12 +17,9 @@ cast-n c =
     rw (toZ-ofZ (sum-fits (c .args .x) (c .fits .x)), sum (c .args .x) (c .fits .x))
     (tt, record { fits = omega (arith, up-below (c .args .x) (c .fits .x)) })
 
-cast-result : tie.Need-cast-result
-cast-result c = search needs
-
 returns : tie.Need-returns
 returns c =
     rw (toZ-ofZ (sum-fits (c .args .x) (c .fits .x)), sum (c .args .x) (c .fits .x)) (up-bits (c .args .x) (c .fits .x))
 
 pub bits-spec : {M : Type 1} → statement M
-bits-spec = tie.close (tie.spec cast-y add-y cast-n cast-result returns)
+bits-spec = tie.close (tie.spec cast-y add-y cast-n (λ c. search needs) returns)

@@ -9,12 +9,6 @@ use Rattle.rows.proofs.Twos.{down, lower-half, upper-half}
 use Rattle.rows.proofs.numbers.signed.Statement.{statement}
 use Rattle.rows.proofs.numbers.signed.Tie as tie
 
-cast-result : tie.Need-cast-result
-cast-result c = search needs
-
-cast-result-2 : tie.Need-cast-result-2
-cast-result-2 c = search needs
-
 module _ (c : tie.Else1) where
   fits16 : SFits w16 (toZ w16 (c .before .args .n))
   fits16 = sfits-toZ (c .before .fits .n)
@@ -37,4 +31,4 @@ returns-2 c =
     (toZ-ofZ (fits16 c) ∙ upper-half (c .before .args .n) (omega arith))
 
 pub signed-spec : {M : Type 1} → statement M
-signed-spec = tie.close (tie.spec cast-result cast-result-2 sub-result cast-result-3 returns returns-2)
+signed-spec = tie.close (tie.spec (λ c. search needs) (λ c. search needs) sub-result cast-result-3 returns returns-2)

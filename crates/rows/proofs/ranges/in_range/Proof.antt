@@ -5,57 +5,6 @@ use borrow.Author.Needs.{needs}
 use Rattle.rows.proofs.ranges.in_range.Statement.{statement}
 use Rattle.rows.proofs.ranges.in_range.Tie as tie
 
-enum-known-row : tie.Need-enum-known-row
-enum-known-row c = search needs
-
-is-visit-requires : tie.Need-is-visit-requires
-is-visit-requires c κs = search needs
-
-enum-known-row-2 : tie.Need-enum-known-row-2
-enum-known-row-2 c = search needs
-
-is-visit-requires-2 : tie.Need-is-visit-requires-2
-is-visit-requires-2 c κs = search needs
-
-is-cell-requires : tie.Need-is-cell-requires
-is-cell-requires c κs = search needs
-
-enum-known-row-3 : tie.Need-enum-known-row-3
-enum-known-row-3 c = search needs
-
-is-visit-requires-3 : tie.Need-is-visit-requires-3
-is-visit-requires-3 c κs = search needs
-
-is-visit-requires-4 : tie.Need-is-visit-requires-4
-is-visit-requires-4 c κs = search needs
-
-is-cell-requires-2 : tie.Need-is-cell-requires-2
-is-cell-requires-2 c κs = search needs
-
-enum-known-row-4 : tie.Need-enum-known-row-4
-enum-known-row-4 c = search needs
-
-is-visit-requires-5 : tie.Need-is-visit-requires-5
-is-visit-requires-5 c κs = search needs
-
-is-cell-requires-3 : tie.Need-is-cell-requires-3
-is-cell-requires-3 c κs = search needs
-
-is-row-number-requires : tie.Need-is-row-number-requires
-is-row-number-requires c κs = search needs
-
-enum-known-row-5 : tie.Need-enum-known-row-5
-enum-known-row-5 c = search needs
-
-is-visit-requires-6 : tie.Need-is-visit-requires-6
-is-visit-requires-6 c κs = search needs
-
-enum-known-row-6 : tie.Need-enum-known-row-6
-enum-known-row-6 c = search needs
-
-is-visit-requires-7 : tie.Need-is-visit-requires-7
-is-visit-requires-7 c κs = search needs
-
 returns : tie.Need-returns
 unfolding fits
 returns c = rw (c .before .before .row .given .1) (c .is-visit .ensures)
@@ -151,23 +100,23 @@ pub in-range-spec : {M : Type 1} → statement M
 in-range-spec =
     tie.close
     (tie.spec
-    enum-known-row
-    is-visit-requires
-    enum-known-row-2
-    is-visit-requires-2
-    is-cell-requires
-    enum-known-row-3
-    is-visit-requires-3
-    is-visit-requires-4
-    is-cell-requires-2
-    enum-known-row-4
-    is-visit-requires-5
-    is-cell-requires-3
-    is-row-number-requires
-    enum-known-row-5
-    is-visit-requires-6
-    enum-known-row-6
-    is-visit-requires-7
+    (λ c. search needs)
+    (λ c κs. search needs)
+    (λ c. search needs)
+    (λ c κs. search needs)
+    (λ c κs. search needs)
+    (λ c. search needs)
+    (λ c κs. search needs)
+    (λ c κs. search needs)
+    (λ c κs. search needs)
+    (λ c. search needs)
+    (λ c κs. search needs)
+    (λ c κs. search needs)
+    (λ c κs. search needs)
+    (λ c. search needs)
+    (λ c κs. search needs)
+    (λ c. search needs)
+    (λ c κs. search needs)
     returns
     returns-2
     returns-3

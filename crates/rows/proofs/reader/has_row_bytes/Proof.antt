@@ -6,12 +6,6 @@ use borrow.Author.Needs.{needs}
 use Rattle.rows.proofs.reader.has_row_bytes.Statement.{statement}
 use Rattle.rows.proofs.reader.has_row_bytes.Tie as tie
 
-shared-slice-read-index : tie.Need-shared-slice-read-index
-shared-slice-read-index c = search needs
-
-index-requires : tie.Need-index-requires
-index-requires c κs = search needs
-
 returns : tie.Need-returns
 returns c =
     let s = c .before .before .before .before in
@@ -21,18 +15,6 @@ returns-2 : tie.Need-returns-2
 returns-2 c =
     let s = c .before .before .before .before .before in
     sym (kind-unknown (s .args .n .0) (s .args .b .now) (omega arith) (rw (c .before .before .index .ensures) at (c .if2 .taken)))
-
-is-as-table-requires : tie.Need-is-as-table-requires
-is-as-table-requires c κs = search needs
-
-shared-slice-read-word : tie.Need-shared-slice-read-word
-shared-slice-read-word c = search needs
-
-shared-slice-read-word-2 : tie.Need-shared-slice-read-word-2
-shared-slice-read-word-2 c = search needs
-
-word-requires : tie.Need-word-requires
-word-requires c κs = search needs
 
 returns-3 : tie.Need-returns-3
 returns-3 c =
@@ -61,13 +43,13 @@ pub has-row-bytes-spec : {M : Type 1} → statement M
 has-row-bytes-spec =
     tie.close
     (tie.spec
-    shared-slice-read-index
-    index-requires
+    (λ c. search needs)
+    (λ c κs. search needs)
     returns
     returns-2
-    is-as-table-requires
-    shared-slice-read-word
-    shared-slice-read-word-2
-    word-requires
+    (λ c κs. search needs)
+    (λ c. search needs)
+    (λ c. search needs)
+    (λ c κs. search needs)
     returns-3
     returns-4)

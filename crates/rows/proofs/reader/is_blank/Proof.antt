@@ -5,11 +5,8 @@ use borrow.Author.Needs.{needs}
 use Rattle.rows.proofs.reader.is_blank.Statement.{statement}
 use Rattle.rows.proofs.reader.is_blank.Tie as tie
 
-is-as-table-requires : tie.Need-is-as-table-requires
-is-as-table-requires c κs = search needs
-
 returns : tie.Need-returns
 returns c = c .is-as-table .ensures ∙ blank-by-table (c .before .before .args .b .now) (c .before .before .pre)
 
 pub is-blank-spec : {M : Type 1} → statement M
-is-blank-spec = tie.close (tie.spec is-as-table-requires returns)
+is-blank-spec = tie.close (tie.spec (λ c κs. search needs) returns)

@@ -12,15 +12,6 @@ use borrow.Author.Needs.{needs}
 use Rattle.rows.proofs.reader.read_row.Statement.{statement}
 use Rattle.rows.proofs.reader.read_row.Tie as tie
 
-has-row-bytes-requires : tie.Need-has-row-bytes-requires
-has-row-bytes-requires c κs = search needs
-
-row-in-requires : tie.Need-row-in-requires
-row-in-requires c κs = search needs
-
-in-range-requires : tie.Need-in-range-requires
-in-range-requires c κs = search needs
-
 -- what the range test says of the row that the bytes would be
 ranges : (c : tie.After-in-range) → c .in-range .result ≡ fits (rowOf (c .before .before .before .before .before .args .b .now))
 ranges c = c .in-range .ensures ∙ ap (λ (r : Row). fits (meant r)) (c .before .row-in .ensures) ∙ ap fits (meant-coded _)
@@ -41,9 +32,6 @@ returns-2 c =
     let is = sym (h .has-row-bytes .ensures) ∙ c .before .before .before .if1 .taken in
     rw (not-blank (a .n .0) (a .b .now) is, is, ← (ranges (c .before)), c .if2 .left)
 
-is-blank-requires : tie.Need-is-blank-requires
-is-blank-requires c κs = search needs
-
 returns-3 : tie.Need-returns-3
 unfolding readOf
 returns-3 c = rw (← (c .before .is-blank .ensures), c .if3 .taken)
@@ -58,11 +46,11 @@ pub read-row-spec : {M : Type 1} → statement M
 read-row-spec =
     tie.close
     (tie.spec
-    has-row-bytes-requires
-    row-in-requires
-    in-range-requires
+    (λ c κs. search needs)
+    (λ c κs. search needs)
+    (λ c κs. search needs)
     returns
     returns-2
-    is-blank-requires
+    (λ c κs. search needs)
     returns-3
     returns-4)

@@ -17,9 +17,6 @@ Inv-loop b kind line wrong₀ i₀ wrong i =
 abbrev μ-loop : tie.MeasureT-loop
 μ-loop b kind line wrong₀ i₀ wrong i = 16 - i
 
-line-of-requires : tie.Need-line-of-requires Inv-loop μ-loop
-line-of-requires c κs = search needs
-
 loop-holds : tie.Need-loop-holds Inv-loop μ-loop
 loop-holds c = (search needs, refl)
 
@@ -28,9 +25,6 @@ array-read-gather-wrong c = omega arith
 
 shared-slice-read-gather-wrong : tie.Need-shared-slice-read-gather-wrong Inv-loop μ-loop
 shared-slice-read-gather-wrong c = omega arith
-
-gather-wrong-requires : tie.Need-gather-wrong-requires Inv-loop μ-loop
-gather-wrong-requires c κs = search needs
 
 add-i : tie.Need-add-i Inv-loop μ-loop
 add-i c = omega arith
@@ -57,11 +51,11 @@ is-as-table-spec =
     (tie.spec
     Inv-loop
     μ-loop
-    line-of-requires
+    (λ c κs. search needs)
     loop-holds
     array-read-gather-wrong
     shared-slice-read-gather-wrong
-    gather-wrong-requires
+    (λ c κs. search needs)
     add-i
     loop-less
     loop-again

@@ -5,45 +5,6 @@ use native.Mathlib.Omega.{arith}
 use Rattle.rows.proofs.table.line_of.Statement.{statement}
 use Rattle.rows.proofs.table.line_of.Tie as tie
 
-array-copy-out-result : tie.Need-array-copy-out-result
-array-copy-out-result c = search needs
-
-array-copy-out-result-2 : tie.Need-array-copy-out-result-2
-array-copy-out-result-2 c = search needs
-
-array-copy-out-result-3 : tie.Need-array-copy-out-result-3
-array-copy-out-result-3 c = search needs
-
-array-copy-out-result-4 : tie.Need-array-copy-out-result-4
-array-copy-out-result-4 c = search needs
-
-array-copy-out-result-5 : tie.Need-array-copy-out-result-5
-array-copy-out-result-5 c = search needs
-
-array-copy-out-result-6 : tie.Need-array-copy-out-result-6
-array-copy-out-result-6 c = search needs
-
-array-copy-out-result-7 : tie.Need-array-copy-out-result-7
-array-copy-out-result-7 c = search needs
-
-returns : tie.Need-returns
-returns c = search needs
-
-returns-2 : tie.Need-returns-2
-returns-2 c = search needs
-
-returns-3 : tie.Need-returns-3
-returns-3 c = search needs
-
-returns-4 : tie.Need-returns-4
-returns-4 c = search needs
-
-returns-5 : tie.Need-returns-5
-returns-5 c = search needs
-
-returns-6 : tie.Need-returns-6
-returns-6 c = search needs
-
 returns-7 : tie.Need-returns-7
 returns-7 c =
     let r = c .before .match .rest in
@@ -55,17 +16,17 @@ pub line-of-spec : {M : Type 1} → statement M
 line-of-spec =
     tie.close
     (tie.spec
-    array-copy-out-result
-    array-copy-out-result-2
-    array-copy-out-result-3
-    array-copy-out-result-4
-    array-copy-out-result-5
-    array-copy-out-result-6
-    array-copy-out-result-7
-    returns
-    returns-2
-    returns-3
-    returns-4
-    returns-5
-    returns-6
+    (λ c. search needs)
+    (λ c. search needs)
+    (λ c. search needs)
+    (λ c. search needs)
+    (λ c. search needs)
+    (λ c. search needs)
+    (λ c. search needs)
+    (λ c. search needs)
+    (λ c. search needs)
+    (λ c. search needs)
+    (λ c. search needs)
+    (λ c. search needs)
+    (λ c. search needs)
     returns-7)

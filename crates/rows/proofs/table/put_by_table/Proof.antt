@@ -15,9 +15,6 @@ Inv-loop b₀ kind f line i₀ b i = (i ≤ 16) × (length b ≡ length b₀) ×
 abbrev μ-loop : tie.MeasureT-loop
 μ-loop b₀ kind f line i₀ b i = 16 - i
 
-line-of-requires : tie.Need-line-of-requires Inv-loop μ-loop
-line-of-requires c κs = search needs
-
 loop-holds : tie.Need-loop-holds Inv-loop μ-loop
 loop-holds c = (search needs, refl, refl)
 
@@ -26,9 +23,6 @@ array-read-byte-or-zero c = omega arith
 
 element-copy-out-byte-or-zero : tie.Need-element-copy-out-byte-or-zero Inv-loop μ-loop
 element-copy-out-byte-or-zero c = omega arith
-
-byte-or-zero-requires : tie.Need-byte-or-zero-requires Inv-loop μ-loop
-byte-or-zero-requires c κs = search needs
 
 slice-write-b : tie.Need-slice-write-b Inv-loop μ-loop
 slice-write-b c = omega arith
@@ -60,11 +54,11 @@ put-by-table-spec =
     (tie.spec
     Inv-loop
     μ-loop
-    line-of-requires
+    (λ c κs. search needs)
     loop-holds
     array-read-byte-or-zero
     element-copy-out-byte-or-zero
-    byte-or-zero-requires
+    (λ c κs. search needs)
     slice-write-b
     add-i
     loop-less

@@ -5,30 +5,6 @@ use borrow.Author.Needs.{needs}
 use Rattle.rows.proofs.writer.parts_of.Statement.{statement}
 use Rattle.rows.proofs.writer.parts_of.Tie as tie
 
-enum-known-row : tie.Need-enum-known-row
-enum-known-row c = search needs
-
-enum-known-row-2 : tie.Need-enum-known-row-2
-enum-known-row-2 c = search needs
-
-bits-requires : tie.Need-bits-requires
-bits-requires c κs = search needs
-
-enum-known-row-3 : tie.Need-enum-known-row-3
-enum-known-row-3 c = search needs
-
-enum-known-row-4 : tie.Need-enum-known-row-4
-enum-known-row-4 c = search needs
-
-bits-requires-2 : tie.Need-bits-requires-2
-bits-requires-2 c κs = search needs
-
-enum-known-row-5 : tie.Need-enum-known-row-5
-enum-known-row-5 c = search needs
-
-enum-known-row-6 : tie.Need-enum-known-row-6
-enum-known-row-6 c = search needs
-
 returns : tie.Need-returns
 returns c = rw (c .before .row .given .1)
 
@@ -61,14 +37,14 @@ pub parts-of-spec : {M : Type 1} → statement M
 parts-of-spec =
     tie.close
     (tie.spec
-    enum-known-row
-    enum-known-row-2
-    bits-requires
-    enum-known-row-3
-    enum-known-row-4
-    bits-requires-2
-    enum-known-row-5
-    enum-known-row-6
+    (λ c. search needs)
+    (λ c. search needs)
+    (λ c κs. search needs)
+    (λ c. search needs)
+    (λ c. search needs)
+    (λ c κs. search needs)
+    (λ c. search needs)
+    (λ c. search needs)
     returns
     returns-2
     returns-3

@@ -4,14 +4,8 @@ use borrow.Author.Needs.{needs}
 use Rattle.rows.proofs.writer.write_row.Statement.{statement}
 use Rattle.rows.proofs.writer.write_row.Tie as tie
 
-parts-of-requires : tie.Need-parts-of-requires
-parts-of-requires c κs = search needs
-
 put-requires : tie.Need-put-requires
 put-requires c κs = let s = c .before .before .before in rw (c .parts-of .ensures) (kind-known (s .args .row), s .pre)
-
-same-length : tie.Need-same-length
-same-length c = search needs
 
 returns : tie.Need-returns
 returns c =
@@ -20,4 +14,4 @@ returns c =
     (written (s .args .row) (s .args .n .0) (s .args .b .now) (s .pre))
 
 pub write-row-spec : {M : Type 1} → statement M
-write-row-spec = tie.close (tie.spec parts-of-requires put-requires same-length returns)
+write-row-spec = tie.close (tie.spec (λ c κs. search needs) put-requires (λ c. search needs) returns)

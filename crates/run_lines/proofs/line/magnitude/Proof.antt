@@ -19,9 +19,6 @@ cast-result-3 c = natural (c .before .args .value) (c .before .fits .value) (c .
 returns : tie.Need-returns
 returns c = other-size (c .before .args .value) (c .before .fits .value) (c .if1 .taken)
 
-returns-2 : tie.Need-returns-2
-returns-2 c = search needs
-
 pub magnitude-spec : {M : Type 1} → statement M
 magnitude-spec =
-    tie.close (tie.spec cast-result sub-result cast-result-2 cast-result-3 returns returns-2)
+    tie.close (tie.spec cast-result sub-result cast-result-2 cast-result-3 returns (λ c. search needs))

@@ -9,26 +9,11 @@ use borrow.Author.Needs.{needs}
 use Rattle.run_lines.proofs.line.put_fault_line.Statement.{statement}
 use Rattle.run_lines.proofs.line.put_fault_line.Tie as tie
 
-slice-write-out : tie.Need-slice-write-out
-slice-write-out c = search needs
-
-add-out : tie.Need-add-out
-add-out c = search needs
-
 slice-write-out-2 : tie.Need-slice-write-out-2
 slice-write-out-2 c = simp length-set (omega arith)
 
-add-out-2 : tie.Need-add-out-2
-add-out-2 c = search needs
-
 slice-write-out-3 : tie.Need-slice-write-out-3
 slice-write-out-3 c = simp length-set (omega arith)
-
-add-result : tie.Need-add-result
-add-result c = search needs
-
-same-length : tie.Need-same-length
-same-length c = search needs
 
 returns : tie.Need-returns
 returns c =
@@ -39,11 +24,11 @@ pub put-fault-line-spec : {M : Type 1} → statement M
 put-fault-line-spec =
     tie.close
     (tie.spec
-    slice-write-out
-    add-out
+    (λ c. search needs)
+    (λ c. search needs)
     slice-write-out-2
-    add-out-2
+    (λ c. search needs)
     slice-write-out-3
-    add-result
-    same-length
+    (λ c. search needs)
+    (λ c. search needs)
     returns)

@@ -20,12 +20,6 @@ value c = rw (toZ-ofZ (c .before .before .before .fits .value)) at (c .put-signe
 long : (c : tie.After-put-signed) → length (c .put-signed .last .0) ≡ length (c .before .before .before .args .out .now)
 long c = let s = c .before .before .before in c .put-signed .kept .0 ∙ length-set (s .args .out .now) (s .args .at) space
 
-slice-write-out : tie.Need-slice-write-out
-slice-write-out c = search needs
-
-add-put-signed : tie.Need-add-put-signed
-add-put-signed c = search needs
-
 put-signed-requires : tie.Need-put-signed-requires
 put-signed-requires c κs =
     let s = c .before .before in
@@ -58,8 +52,8 @@ pub put-last-spec : {M : Type 1} → statement M
 put-last-spec =
     tie.close
     (tie.spec
-    slice-write-out
-    add-put-signed
+    (λ c. search needs)
+    (λ c. search needs)
     put-signed-requires
     slice-write-out-2
     add-result

@@ -20,14 +20,8 @@ fits c =
     let all = line-length (a .session) (a .call) (a .number) (a .value) (omega arith) (omega arith) (omega (arith, c .fits .number .fits)) (c .fits .value) in
     omega (arith, line-parts (a .session) (a .call) (a .number) (a .value))
 
-cast-put-decimal : tie.Need-cast-put-decimal
-cast-put-decimal c = search needs
-
 put-decimal-requires : tie.Need-put-decimal-requires
 put-decimal-requires c κs = omega (arith, fits (c .before .before))
-
-cast-put-next : tie.Need-cast-put-next
-cast-put-next c = search needs
 
 put-next-requires : tie.Need-put-next-requires
 put-next-requires c κs = omega (arith, fits (c .before .before .before .before .before .before))
@@ -39,9 +33,6 @@ put-last-requires : tie.Need-put-last-requires
 put-last-requires c κs =
     let s = c .before .before .before .before .before .before .before .before .before .before .before .before .before .before in
     rw (toZ-ofZ (s .fits .value)) (omega (arith, fits s, length-append (signedDecimal (s .args .value)) (newline ∷ [])))
-
-same-length : tie.Need-same-length
-same-length c = search needs
 
 returns : tie.Need-returns
 unfolding line
@@ -65,11 +56,11 @@ pub put-line-spec : {M : Type 1} → statement M
 put-line-spec =
     tie.close
     (tie.spec
-    cast-put-decimal
+    (λ c. search needs)
     put-decimal-requires
-    cast-put-next
+    (λ c. search needs)
     put-next-requires
     put-next-requires-2
     put-last-requires
-    same-length
+    (λ c. search needs)
     returns)

@@ -8,12 +8,6 @@ use borrow.Author.Needs.{needs}
 use Rattle.run_lines.proofs.line.put_next.Statement.{statement}
 use Rattle.run_lines.proofs.line.put_next.Tie as tie
 
-slice-write-out : tie.Need-slice-write-out
-slice-write-out c = search needs
-
-add-put-decimal : tie.Need-add-put-decimal
-add-put-decimal c = search needs
-
 put-decimal-requires : tie.Need-put-decimal-requires
 put-decimal-requires c κs = simp length-set (omega arith)
 
@@ -27,4 +21,4 @@ returns c =
 
 pub put-next-spec : {M : Type 1} → statement M
 put-next-spec =
-    tie.close (tie.spec slice-write-out add-put-decimal put-decimal-requires same-length returns)
+    tie.close (tie.spec (λ c. search needs) (λ c. search needs) put-decimal-requires same-length returns)

@@ -20,14 +20,8 @@ size c = c .magnitude .ensures ∙ ap natAbs (toZ-ofZ (c .before .before .fits .
 shorter : (c : tie.Then1) → length (signedDecimal (c .before .before .before .args .value)) ≡ suc (length (decimal (c .before .magnitude .result)))
 shorter c = let s = c .before .before .before in rw (size (c .before)) (ap length (minus (s .args .value) (s .fits .value) (c .if1 .taken)))
 
-magnitude-requires : tie.Need-magnitude-requires
-magnitude-requires c κs = search needs
-
 slice-write-out : tie.Need-slice-write-out
 slice-write-out c = let l = shorter c in omega arith
-
-add-put-decimal : tie.Need-add-put-decimal
-add-put-decimal c = search needs
 
 put-decimal-requires : tie.Need-put-decimal-requires
 put-decimal-requires c κs = let l = shorter (c .before) in simp length-set (omega arith)
@@ -48,9 +42,6 @@ returns c =
     rw (minus (s .args .value) (s .fits .value) (t .if1 .taken), ← size (t .before))
     (written-first (s .args .out .now) (s .args .at) 45 (decimal (t .before .magnitude .result)) (omega arith) (c .before .before .put-decimal .ensures))
 
-same-length-2 : tie.Need-same-length-2
-same-length-2 c = search needs
-
 returns-2 : tie.Need-returns-2
 returns-2 c =
     let s = c .before .before .before .before .before .before .before in
@@ -61,12 +52,12 @@ pub put-signed-spec : {M : Type 1} → statement M
 put-signed-spec =
     tie.close
     (tie.spec
-    magnitude-requires
+    (λ c κs. search needs)
     slice-write-out
-    add-put-decimal
+    (λ c. search needs)
     put-decimal-requires
     put-decimal-requires-2
     same-length
     returns
-    same-length-2
+    (λ c. search needs)
     returns-2)

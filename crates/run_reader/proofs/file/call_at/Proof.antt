@@ -6,48 +6,6 @@ use Rattle.run_reader.proofs.CallBytes.{of-code, of-rest}
 use Rattle.run_reader.proofs.file.call_at.Statement.{statement}
 use Rattle.run_reader.proofs.file.call_at.Tie as tie
 
-add-wide : tie.Need-add-wide
-add-wide c = search needs
-
-shared-slice-read-wide : tie.Need-shared-slice-read-wide
-shared-slice-read-wide c = search needs
-
-wide-requires : tie.Need-wide-requires
-wide-requires c κs = search needs
-
-add-match : tie.Need-add-match
-add-match c = search needs
-
-shared-slice-read-match : tie.Need-shared-slice-read-match
-shared-slice-read-match c = search needs
-
-shared-slice-read-match-2 : tie.Need-shared-slice-read-match-2
-shared-slice-read-match-2 c = search needs
-
-add-read16 : tie.Need-add-read16
-add-read16 c = search needs
-
-read16-requires : tie.Need-read16-requires
-read16-requires c κs = search needs
-
-signed-requires : tie.Need-signed-requires
-signed-requires c κs = search needs
-
-add-wide-2 : tie.Need-add-wide-2
-add-wide-2 c = search needs
-
-shared-slice-read-wide-2 : tie.Need-shared-slice-read-wide-2
-shared-slice-read-wide-2 c = search needs
-
-wide-requires-2 : tie.Need-wide-requires-2
-wide-requires-2 c κs = search needs
-
-add-t21 : tie.Need-add-t21
-add-t21 c = search needs
-
-shared-slice-read-t23 : tie.Need-shared-slice-read-t23
-shared-slice-read-t23 c = search needs
-
 returns : tie.Need-returns
 returns c = let s = c .before .before .before .before .before .before .args in of-code (s .file .now) (s .at) 0 (c .match .keys1)
 
@@ -102,20 +60,20 @@ pub call-at-spec : {M : Type 1} → statement M
 call-at-spec =
     tie.close
     (tie.spec
-    add-wide
-    shared-slice-read-wide
-    wide-requires
-    add-match
-    shared-slice-read-match
-    shared-slice-read-match-2
-    add-read16
-    read16-requires
-    signed-requires
-    add-wide-2
-    shared-slice-read-wide-2
-    wide-requires-2
-    add-t21
-    shared-slice-read-t23
+    (λ c. search needs)
+    (λ c. search needs)
+    (λ c κs. search needs)
+    (λ c. search needs)
+    (λ c. search needs)
+    (λ c. search needs)
+    (λ c. search needs)
+    (λ c κs. search needs)
+    (λ c κs. search needs)
+    (λ c. search needs)
+    (λ c. search needs)
+    (λ c κs. search needs)
+    (λ c. search needs)
+    (λ c. search needs)
     returns
     returns-2
     returns-3

@@ -6,48 +6,6 @@ use Rattle.run_reader.proofs.CallBytes.{none-used, changes, hands-over,
 use Rattle.run_reader.proofs.file.is_call.Statement.{statement}
 use Rattle.run_reader.proofs.file.is_call.Tie as tie
 
-add-result : tie.Need-add-result
-add-result c = search needs
-
-add-result-2 : tie.Need-add-result-2
-add-result-2 c = search needs
-
-add-result-3 : tie.Need-add-result-3
-add-result-3 c = search needs
-
-add-result-4 : tie.Need-add-result-4
-add-result-4 c = search needs
-
-add-result-5 : tie.Need-add-result-5
-add-result-5 c = search needs
-
-add-result-6 : tie.Need-add-result-6
-add-result-6 c = search needs
-
-add-result-7 : tie.Need-add-result-7
-add-result-7 c = search needs
-
-add-result-8 : tie.Need-add-result-8
-add-result-8 c = search needs
-
-add-result-9 : tie.Need-add-result-9
-add-result-9 c = search needs
-
-add-result-10 : tie.Need-add-result-10
-add-result-10 c = search needs
-
-add-result-11 : tie.Need-add-result-11
-add-result-11 c = search needs
-
-add-result-12 : tie.Need-add-result-12
-add-result-12 c = search needs
-
-add-result-13 : tie.Need-add-result-13
-add-result-13 c = search needs
-
-add-result-14 : tie.Need-add-result-14
-add-result-14 c = search needs
-
 returns : tie.Need-returns
 returns c = let s = c .before .args in none-used (s .code) (s .visit) (s .receiver) (s .cell) (s .change) (omega arith) (inl (c .match .keys1))
 
@@ -82,20 +40,20 @@ pub is-call-spec : {M : Type 1} → statement M
 is-call-spec =
     tie.close
     (tie.spec
-    add-result
-    add-result-2
-    add-result-3
-    add-result-4
-    add-result-5
-    add-result-6
-    add-result-7
-    add-result-8
-    add-result-9
-    add-result-10
-    add-result-11
-    add-result-12
-    add-result-13
-    add-result-14
+    (λ c. search needs)
+    (λ c. search needs)
+    (λ c. search needs)
+    (λ c. search needs)
+    (λ c. search needs)
+    (λ c. search needs)
+    (λ c. search needs)
+    (λ c. search needs)
+    (λ c. search needs)
+    (λ c. search needs)
+    (λ c. search needs)
+    (λ c. search needs)
+    (λ c. search needs)
+    (λ c. search needs)
     returns
     returns-2
     returns-3

@@ -13,29 +13,14 @@ returns c = sym (is-false _ (λ t. let f = run-file _ t in omega arith))
 returns-2 : tie.Need-returns-2
 returns-2 c = sym (is-false _ (λ t. let f = run-file _ t in omega arith))
 
-shared-slice-read-index : tie.Need-shared-slice-read-index
-shared-slice-read-index c = search needs
-
-index-requires : tie.Need-index-requires
-index-requires c κs = search needs
-
 returns-3 : tie.Need-returns-3
 returns-3 c = sym (is-false _ (λ t. let f = run-file _ t in omega arith))
 
 returns-4 : tie.Need-returns-4
 returns-4 c = sym (is-false _ (λ t. let f = run-file _ t in omega arith))
 
-mul-if5 : tie.Need-mul-if5
-mul-if5 c = search needs
-
-add-if5 : tie.Need-add-if5
-add-if5 c = search needs
-
 returns-5 : tie.Need-returns-5
 returns-5 c = sym (is-false _ (λ t. let f = run-file _ t in omega arith))
-
-are-bodies-requires : tie.Need-are-bodies-requires
-are-bodies-requires c κs = search needs
 
 returns-6 : tie.Need-returns-6
 returns-6 c =
@@ -48,12 +33,12 @@ is-run-file-spec =
     (tie.spec
     returns
     returns-2
-    shared-slice-read-index
-    index-requires
+    (λ c. search needs)
+    (λ c κs. search needs)
     returns-3
     returns-4
-    mul-if5
-    add-if5
+    (λ c. search needs)
+    (λ c. search needs)
     returns-5
-    are-bodies-requires
+    (λ c κs. search needs)
     returns-6)

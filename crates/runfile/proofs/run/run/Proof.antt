@@ -9,23 +9,11 @@ use Rattle.runfile.proofs.run.run.Tie as tie
 returns : tie.Need-returns
 returns c = record { short = λ h. (refl, refl); lines = λ h. absurd (omega arith) }
 
-is-run-file-requires : tie.Need-is-run-file-requires
-is-run-file-requires c κs = search needs
-
 play-requires : tie.Need-play-requires
 play-requires c κs = (sym (c .before .before .is-run-file .ensures) ∙ c .before .if2 .taken, omega arith)
 
-same-length : tie.Need-same-length
-same-length c = search needs
-
 returns-2 : tie.Need-returns-2
 returns-2 c = ran-file _ _ _ _ (omega (arith, c .before .before .before .before .before .before .if1 .left)) (sym (c .before .before .before .before .before .is-run-file .ensures) ∙ c .before .before .before .before .if2 .taken) (c .before .before .play .ensures)
-
-put-fault-line-requires : tie.Need-put-fault-line-requires
-put-fault-line-requires c κs = search needs
-
-same-length-2 : tie.Need-same-length-2
-same-length-2 c = search needs
 
 returns-3 : tie.Need-returns-3
 returns-3 c = ran-other _ _ _ _ (omega (arith, c .before .before .before .before .before .before .if1 .left)) (sym (c .before .before .before .before .before .is-run-file .ensures) ∙ c .before .before .before .before .if2 .left) (c .before .before .put-fault-line .ensures)
@@ -35,10 +23,10 @@ run-spec =
     tie.close
     (tie.spec
     returns
-    is-run-file-requires
+    (λ c κs. search needs)
     play-requires
-    same-length
+    (λ c. search needs)
     returns-2
-    put-fault-line-requires
-    same-length-2
+    (λ c κs. search needs)
+    (λ c. search needs)
     returns-3)

@@ -32,9 +32,6 @@ in-output s = omega (arith, s .pre .1, s .pre .2)
 shared-slice-read-index : tie.Need-shared-slice-read-index Inv-loop μ-loop
 shared-slice-read-index c = let f = is-file (c .before .before .before .before .before .before) in omega arith
 
-index-requires : tie.Need-index-requires Inv-loop μ-loop
-index-requires c κs = search needs
-
 mul-place : tie.Need-mul-place Inv-loop μ-loop
 mul-place c = let f = is-file (c .before .before .before .before .before .before .before) in omega (arith, f .few, c .index .ensures)
 
@@ -132,7 +129,7 @@ sessions-spec =
     Inv-loop
     μ-loop
     shared-slice-read-index
-    index-requires
+    (λ c κs. search needs)
     mul-place
     add-place
     loop-holds

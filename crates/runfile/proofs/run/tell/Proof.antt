@@ -9,18 +9,6 @@ use Rattle.run_lines.proofs.Decimals.{line-length}
 use Rattle.runfile.proofs.run.tell.Statement.{statement}
 use Rattle.runfile.proofs.run.tell.Tie as tie
 
-number-of-requires : tie.Need-number-of-requires
-number-of-requires c κs = search needs
-
-value-of-requires : tie.Need-value-of-requires
-value-of-requires c κs = search needs
-
-put-line-requires : tie.Need-put-line-requires
-put-line-requires c κs = search needs
-
-same-length : tie.Need-same-length
-same-length c = search needs
-
 returns : tie.Need-returns
 returns c =
     let a = c .before .before .before .before .before .before .before .before .before .before .args in
@@ -32,4 +20,4 @@ returns c =
     (rw (← n .ensures, ← v .ensures) written, omega (arith, written .place), refl, refl)
 
 pub tell-spec : {M : Type 1} → statement M
-tell-spec = tie.close (tie.spec number-of-requires value-of-requires put-line-requires same-length returns)
+tell-spec = tie.close (tie.spec (λ c κs. search needs) (λ c κs. search needs) (λ c κs. search needs) (λ c. search needs) returns)

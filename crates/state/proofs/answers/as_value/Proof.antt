@@ -6,11 +6,8 @@ use borrow.Author.Needs.{needs}
 use Rattle.state.proofs.answers.as_value.Statement.{statement}
 use Rattle.state.proofs.answers.as_value.Tie as tie
 
-cast-result : tie.Need-cast-result
-cast-result c = search needs
-
 returns : tie.Need-returns
 returns c = rw (toZ-pos w32 {n = c .args .n} (omega (arith, c .fits .n .fits)))
 
 pub as-value-spec : {M : Type 1} → statement M
-as-value-spec = tie.close (tie.spec cast-result returns)
+as-value-spec = tie.close (tie.spec (λ c. search needs) returns)

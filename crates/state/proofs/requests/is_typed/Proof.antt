@@ -4,30 +4,6 @@ use borrow.Author.Needs.{needs}
 use Rattle.state.proofs.requests.is_typed.Statement.{statement}
 use Rattle.state.proofs.requests.is_typed.Tie as tie
 
-enum-told : tie.Need-enum-told
-enum-told c = search needs
-
-enum-known-request : tie.Need-enum-known-request
-enum-known-request c = search needs
-
-enum-told-2 : tie.Need-enum-told-2
-enum-told-2 c = search needs
-
-enum-told-3 : tie.Need-enum-told-3
-enum-told-3 c = search needs
-
-enum-told-4 : tie.Need-enum-told-4
-enum-told-4 c = search needs
-
-enum-told-5 : tie.Need-enum-told-5
-enum-told-5 c = search needs
-
-enum-told-6 : tie.Need-enum-told-6
-enum-told-6 c = search needs
-
-enum-told-7 : tie.Need-enum-told-7
-enum-told-7 c = search needs
-
 returns : tie.Need-returns
 returns c = rw (c .enum-told .given .1) tt
 
@@ -56,14 +32,14 @@ pub is-typed-spec : {M : Type 1} → statement M
 is-typed-spec =
     tie.close
     (tie.spec
-    enum-told
-    enum-known-request
-    enum-told-2
-    enum-told-3
-    enum-told-4
-    enum-told-5
-    enum-told-6
-    enum-told-7
+    (λ c. search needs)
+    (λ c. search needs)
+    (λ c. search needs)
+    (λ c. search needs)
+    (λ c. search needs)
+    (λ c. search needs)
+    (λ c. search needs)
+    (λ c. search needs)
     returns
     returns-2
     returns-3

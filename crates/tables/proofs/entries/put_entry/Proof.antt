@@ -7,30 +7,6 @@ use borrow.Author.Needs.{needs}
 use Rattle.tables.proofs.entries.put_entry.Statement.{statement}
 use Rattle.tables.proofs.entries.put_entry.Tie as tie
 
-flag-of-requires : tie.Need-flag-of-requires
-flag-of-requires c κs = search needs
-
-put-number-requires : tie.Need-put-number-requires
-put-number-requires c κs = search needs
-
-put-number-requires-2 : tie.Need-put-number-requires-2
-put-number-requires-2 c κs = search needs
-
-cast-put-number : tie.Need-cast-put-number
-cast-put-number c = search needs
-
-put-number-requires-3 : tie.Need-put-number-requires-3
-put-number-requires-3 c κs = search needs
-
-put-number-requires-4 : tie.Need-put-number-requires-4
-put-number-requires-4 c κs = search needs
-
-put-number-requires-5 : tie.Need-put-number-requires-5
-put-number-requires-5 c κs = search needs
-
-put-number-requires-6 : tie.Need-put-number-requires-6
-put-number-requires-6 c κs = search needs
-
 put-number-requires-7 : tie.Need-put-number-requires-7
 put-number-requires-7 c κs =
     let sixth = c .before .before .before in
@@ -43,9 +19,6 @@ put-number-requires-7 c κs =
     let long =
     sixth .put-number6 .kept .0 ∙ fifth .put-number5 .kept .0 ∙ fourth .put-number4 .kept .0 ∙ third .put-number3 .kept .0 ∙ second .put-number2 .kept .0 ∙ first .put-number .kept .0 ∙ s .pre .long in
     (record { long = long; below = s .pre .below }, omega arith)
-
-same-length : tie.Need-same-length
-same-length c = search needs
 
 returns : tie.Need-returns
 returns c =
@@ -75,14 +48,14 @@ pub put-entry-spec : {M : Type 1} → statement M
 put-entry-spec =
     tie.close
     (tie.spec
-    flag-of-requires
-    put-number-requires
-    put-number-requires-2
-    cast-put-number
-    put-number-requires-3
-    put-number-requires-4
-    put-number-requires-5
-    put-number-requires-6
+    (λ c κs. search needs)
+    (λ c κs. search needs)
+    (λ c κs. search needs)
+    (λ c. search needs)
+    (λ c κs. search needs)
+    (λ c κs. search needs)
+    (λ c κs. search needs)
+    (λ c κs. search needs)
     put-number-requires-7
-    same-length
+    (λ c. search needs)
     returns)

@@ -13,9 +13,6 @@ and-false : (p q : Bool) → ((p && false) && q) ≡ false
 and-false true q = refl
 and-false false q = refl
 
-cell-at-requires : tie.Need-cell-at-requires
-cell-at-requires c κs = search needs
-
 returns : tie.Need-returns
 returns c =
     let e = c .before .before .before in
@@ -23,17 +20,11 @@ returns c =
     let x = entryAt (s .args .t .now) (s .args .i) in
     rw (entries-at _ _ (s .pre .below), ← e .cell-at .ensures, ne-eqb _ _ (c .if1 .taken)) (sym (and-false (eqb (x .maker) (s .args .v .0)) (not (x .handed))))
 
-maker-at-requires : tie.Need-maker-at-requires
-maker-at-requires c κs = search needs
-
 returns-2 : tie.Need-returns-2
 returns-2 c =
     let m = c .before .before .before in
     let s = m .before .before .before .before .before .before in
     rw (entries-at _ _ (s .pre .below), ← m .maker-at .ensures, ne-eqb _ _ (c .if2 .taken))
-
-handed-at-requires : tie.Need-handed-at-requires
-handed-at-requires c κs = search needs
 
 returns-3 : tie.Need-returns-3
 returns-3 c =
@@ -52,4 +43,4 @@ returns-3 c =
 pub grows-at-spec : {M : Type 1} → statement M
 grows-at-spec =
     tie.close
-    (tie.spec cell-at-requires returns maker-at-requires returns-2 handed-at-requires returns-3)
+    (tie.spec (λ c κs. search needs) returns (λ c κs. search needs) returns-2 (λ c κs. search needs) returns-3)

@@ -4,15 +4,6 @@ use borrow.Author.Needs.{needs}
 use Rattle.tables.proofs.lookup.last_by.Statement.{statement}
 use Rattle.tables.proofs.lookup.last_by.Tie as tie
 
-holder-at-requires : tie.Need-holder-at-requires
-holder-at-requires c κs = search needs
-
-covers-requires : tie.Need-covers-requires
-covers-requires c κs = search needs
-
-last-at-requires : tie.Need-last-at-requires
-last-at-requires c κs = search needs
-
 returns : tie.Need-returns
 returns c =
     let v = c .before .before in
@@ -27,4 +18,4 @@ returns-2 c =
 
 pub last-by-spec : {M : Type 1} → statement M
 last-by-spec =
-    tie.close (tie.spec holder-at-requires covers-requires last-at-requires returns returns-2)
+    tie.close (tie.spec (λ c κs. search needs) (λ c κs. search needs) (λ c κs. search needs) returns returns-2)

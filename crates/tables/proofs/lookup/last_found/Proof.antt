@@ -6,25 +6,16 @@ use borrow.Author.Needs.{needs}
 use Rattle.tables.proofs.lookup.last_found.Statement.{statement}
 use Rattle.tables.proofs.lookup.last_found.Tie as tie
 
-enum-known-found : tie.Need-enum-known-found
-enum-known-found c = search needs
-
 last-at-requires : tie.Need-last-at-requires
 last-at-requires c κs =
     let k : Reaches _ (At (c .before .found .given .0 .0)) = rw (c .before .found .given .1) at (c .before .before .before .before .pre) in
     record { long = k .0; below = k .1 }
-
-enum-told : tie.Need-enum-told
-enum-told c = search needs
 
 returns : tie.Need-returns
 returns c =
     let k : Reaches _ (At (c .before .before .found .given .0 .0)) = rw (c .before .before .found .given .1) at (c .before .before .before .before .before .pre) in
     rw (c .before .before .found .given .1, entries-at _ _ (k .1)) (c .last-at .ensures)
 
-returns-2 : tie.Need-returns-2
-returns-2 c = search needs
-
 pub last-found-spec : {M : Type 1} → statement M
 last-found-spec =
-    tie.close (tie.spec enum-known-found last-at-requires enum-told returns returns-2)
+    tie.close (tie.spec (λ c. search needs) last-at-requires (λ c. search needs) returns (λ c. search needs))

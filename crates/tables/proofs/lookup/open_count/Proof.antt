@@ -26,9 +26,6 @@ loop-holds c = (omega arith, omega arith, omega arith)
 count-at-requires : tie.Need-count-at-requires Inv-loop μ-loop
 count-at-requires c κs = record { long = c .before .before .before .pre .long; below = omega (arith, c .before .before .before .pre .within) }
 
-cast-sum : tie.Need-cast-sum Inv-loop μ-loop
-cast-sum c = search needs
-
 add-sum : tie.Need-add-sum Inv-loop μ-loop
 add-sum c = omega (arith, c .before .before .before .before .pre .within, c .count-at .ok)
 
@@ -63,7 +60,7 @@ open-count-spec =
     μ-loop
     loop-holds
     count-at-requires
-    cast-sum
+    (λ c. search needs)
     add-sum
     add-i
     loop-less

@@ -5,9 +5,6 @@ use Rattle.tables.proofs.Verdicts.{reaches}
 use Rattle.tables.proofs.rules.highest_of.Statement.{statement}
 use Rattle.tables.proofs.rules.highest_of.Tie as tie
 
-highest-requires : tie.Need-highest-requires
-highest-requires c κs = search needs
-
 last-found-requires : tie.Need-last-found-requires
 last-found-requires c κs =
     let s = c .before .before in reaches _ _ _ _ _ (c .highest .ensures) (s .pre .range .used) (s .pre .long)
@@ -17,4 +14,4 @@ unfolding highestOf
 returns c vs = rw (c .last-found .ensures, c .before .highest .ensures)
 
 pub highest-of-spec : {M : Type 1} → statement M
-highest-of-spec = tie.close (tie.spec highest-requires last-found-requires returns)
+highest-of-spec = tie.close (tie.spec (λ c κs. search needs) last-found-requires returns)

@@ -6,42 +6,6 @@ use Rattle.tables_model.specs.Rows.{lawfulBy}
 use Rattle.tables.proofs.rules.is_lawful.Statement.{statement}
 use Rattle.tables.proofs.rules.is_lawful.Tie as tie
 
-enum-known-row : tie.Need-enum-known-row
-enum-known-row c = search needs
-
-is-next-requires : tie.Need-is-next-requires
-is-next-requires c κs = search needs
-
-enum-known-row-2 : tie.Need-enum-known-row-2
-enum-known-row-2 c = search needs
-
-may-act-requires : tie.Need-may-act-requires
-may-act-requires c κs = search needs
-
-enum-known-row-3 : tie.Need-enum-known-row-3
-enum-known-row-3 c = search needs
-
-may-hand-over-requires : tie.Need-may-hand-over-requires
-may-hand-over-requires c κs = search needs
-
-enum-known-row-4 : tie.Need-enum-known-row-4
-enum-known-row-4 c = search needs
-
-may-undo-requires : tie.Need-may-undo-requires
-may-undo-requires c κs = search needs
-
-enum-known-row-5 : tie.Need-enum-known-row-5
-enum-known-row-5 c = search needs
-
-may-act-requires-2 : tie.Need-may-act-requires-2
-may-act-requires-2 c κs = search needs
-
-enum-known-row-6 : tie.Need-enum-known-row-6
-enum-known-row-6 c = search needs
-
-may-abort-requires : tie.Need-may-abort-requires
-may-abort-requires c κs = search needs
-
 returns : tie.Need-returns
 unfolding lawfulBy
 returns c = rw (c .before .before .row .given .1, c .is-next .ensures)
@@ -73,18 +37,18 @@ pub is-lawful-spec : {M : Type 1} → statement M
 is-lawful-spec =
     tie.close
     (tie.spec
-    enum-known-row
-    is-next-requires
-    enum-known-row-2
-    may-act-requires
-    enum-known-row-3
-    may-hand-over-requires
-    enum-known-row-4
-    may-undo-requires
-    enum-known-row-5
-    may-act-requires-2
-    enum-known-row-6
-    may-abort-requires
+    (λ c. search needs)
+    (λ c κs. search needs)
+    (λ c. search needs)
+    (λ c κs. search needs)
+    (λ c. search needs)
+    (λ c κs. search needs)
+    (λ c. search needs)
+    (λ c κs. search needs)
+    (λ c. search needs)
+    (λ c κs. search needs)
+    (λ c. search needs)
+    (λ c κs. search needs)
     returns
     returns-2
     returns-3

@@ -4,33 +4,6 @@ use Rattle.tables_model.specs.Rows.{withinLimitsBy}
 use Rattle.tables.proofs.rules.is_within_limits.Statement.{statement}
 use Rattle.tables.proofs.rules.is_within_limits.Tie as tie
 
-enum-told : tie.Need-enum-told
-enum-told c = search needs
-
-room-to-begin-requires : tie.Need-room-to-begin-requires
-room-to-begin-requires c κs = search needs
-
-enum-known-row : tie.Need-enum-known-row
-enum-known-row c = search needs
-
-room-to-change-requires : tie.Need-room-to-change-requires
-room-to-change-requires c κs = search needs
-
-enum-told-2 : tie.Need-enum-told-2
-enum-told-2 c = search needs
-
-has-room-requires : tie.Need-has-room-requires
-has-room-requires c κs = search needs
-
-enum-told-3 : tie.Need-enum-told-3
-enum-told-3 c = search needs
-
-enum-told-4 : tie.Need-enum-told-4
-enum-told-4 c = search needs
-
-enum-told-5 : tie.Need-enum-told-5
-enum-told-5 c = search needs
-
 returns : tie.Need-returns
 unfolding withinLimitsBy
 returns c vs = rw (c .before .enum-told .given .1, c .room-to-begin .ensures vs)
@@ -59,15 +32,15 @@ pub is-within-limits-spec : {M : Type 1} → statement M
 is-within-limits-spec =
     tie.close
     (tie.spec
-    enum-told
-    room-to-begin-requires
-    enum-known-row
-    room-to-change-requires
-    enum-told-2
-    has-room-requires
-    enum-told-3
-    enum-told-4
-    enum-told-5
+    (λ c. search needs)
+    (λ c κs. search needs)
+    (λ c. search needs)
+    (λ c κs. search needs)
+    (λ c. search needs)
+    (λ c κs. search needs)
+    (λ c. search needs)
+    (λ c. search needs)
+    (λ c. search needs)
     returns
     returns-2
     returns-3

@@ -5,15 +5,9 @@ use Rattle.tables_model.specs.Rows.{judgeBy}
 use Rattle.tables.proofs.rules.judge.Statement.{statement}
 use Rattle.tables.proofs.rules.judge.Tie as tie
 
-is-lawful-requires : tie.Need-is-lawful-requires
-is-lawful-requires c κs = search needs
-
 returns : tie.Need-returns
 unfolding judgeBy
 returns c = rw (← c .before .is-lawful .ensures, not-true (c .before .is-lawful .result) (c .if1 .taken))
-
-is-within-limits-requires : tie.Need-is-within-limits-requires
-is-within-limits-requires c κs = search needs
 
 returns-2 : tie.Need-returns-2
 unfolding judgeBy
@@ -39,4 +33,4 @@ returns-3 c =
 
 pub judge-spec : {M : Type 1} → statement M
 judge-spec =
-    tie.close (tie.spec is-lawful-requires returns is-within-limits-requires returns-2 returns-3)
+    tie.close (tie.spec (λ c κs. search needs) returns (λ c κs. search needs) returns-2 returns-3)

@@ -4,14 +4,8 @@ use borrow.Author.Needs.{needs}
 use Rattle.tables.proofs.rules.may_abort.Statement.{statement}
 use Rattle.tables.proofs.rules.may_abort.Tie as tie
 
-is-listed-requires : tie.Need-is-listed-requires
-is-listed-requires c κs = search needs
-
 returns : tie.Need-returns
 returns c = rw (← c .before .is-listed .ensures, not-true (c .before .is-listed .result) (c .if1 .taken))
-
-highest-of-requires : tie.Need-highest-of-requires
-highest-of-requires c κs = search needs
 
 returns-2 : tie.Need-returns-2
 returns-2 c =
@@ -23,4 +17,4 @@ returns-2 c =
     )
 
 pub may-abort-spec : {M : Type 1} → statement M
-may-abort-spec = tie.close (tie.spec is-listed-requires returns highest-of-requires returns-2)
+may-abort-spec = tie.close (tie.spec (λ c κs. search needs) returns (λ c κs. search needs) returns-2)

@@ -3,12 +3,6 @@ use borrow.Author.Needs.{needs}
 use Rattle.tables.proofs.rules.may_act.Statement.{statement}
 use Rattle.tables.proofs.rules.may_act.Tie as tie
 
-is-listed-requires : tie.Need-is-listed-requires
-is-listed-requires c κs = search needs
-
-is-bearing-requires : tie.Need-is-bearing-requires
-is-bearing-requires c κs = search needs
-
 returns : tie.Need-returns
 returns c = rw (← c .before .before .is-listed .ensures, c .before .if1 .taken, c .is-bearing .ensures)
 
@@ -16,4 +10,4 @@ returns-2 : tie.Need-returns-2
 returns-2 c = rw (← c .before .is-listed .ensures, c .if1 .left)
 
 pub may-act-spec : {M : Type 1} → statement M
-may-act-spec = tie.close (tie.spec is-listed-requires is-bearing-requires returns returns-2)
+may-act-spec = tie.close (tie.spec (λ c κs. search needs) (λ c κs. search needs) returns returns-2)

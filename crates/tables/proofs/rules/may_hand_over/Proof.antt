@@ -31,22 +31,13 @@ receiver-free c = sym (c .before .is-bearing2 .ensures) ∙ c .if5 .left
 returns : tie.Need-returns
 returns c = rw (eq-eqb _ _ (c .if1 .taken))
 
-is-listed-requires : tie.Need-is-listed-requires
-is-listed-requires c κs = search needs
-
 returns-2 : tie.Need-returns-2
 returns-2 c = rw (apart (c .before .before), ← c .before .is-listed .ensures, not-true (c .before .is-listed .result) (c .if2 .taken))
-
-is-listed-requires-2 : tie.Need-is-listed-requires-2
-is-listed-requires-2 c κs = search needs
 
 returns-3 : tie.Need-returns-3
 returns-3 c =
     let b = c .before .before in
     rw (apart (b .before .before), giver-listed b, ← c .before .is-listed2 .ensures, not-true (c .before .is-listed2 .result) (c .if3 .taken))
-
-is-bearing-requires : tie.Need-is-bearing-requires
-is-bearing-requires c κs = search needs
 
 returns-4 : tie.Need-returns-4
 returns-4 c =
@@ -54,18 +45,12 @@ returns-4 c =
     let a = b .before .before in
     rw (apart (a .before .before), giver-listed a, receiver-listed b, ← c .before .is-bearing .ensures, c .if4 .taken)
 
-is-bearing-requires-2 : tie.Need-is-bearing-requires-2
-is-bearing-requires-2 c κs = search needs
-
 returns-5 : tie.Need-returns-5
 returns-5 c =
     let d = c .before .before in
     let b = d .before .before in
     let a = b .before .before in
     rw (apart (a .before .before), giver-listed a, receiver-listed b, giver-free d, ← c .before .is-bearing2 .ensures, c .if5 .taken)
-
-holds-cell-requires : tie.Need-holds-cell-requires
-holds-cell-requires c κs = search needs
 
 returns-6 : tie.Need-returns-6
 returns-6 c =
@@ -80,13 +65,13 @@ may-hand-over-spec =
     tie.close
     (tie.spec
     returns
-    is-listed-requires
+    (λ c κs. search needs)
     returns-2
-    is-listed-requires-2
+    (λ c κs. search needs)
     returns-3
-    is-bearing-requires
+    (λ c κs. search needs)
     returns-4
-    is-bearing-requires-2
+    (λ c κs. search needs)
     returns-5
-    holds-cell-requires
+    (λ c κs. search needs)
     returns-6)

@@ -8,9 +8,6 @@ use Rattle.tables.proofs.rules.may_undo.Tie as tie
 returns : tie.Need-returns
 returns c vs = rw (lt-leb _ _ (c .if1 .taken))
 
-highest-of-requires : tie.Need-highest-of-requires
-highest-of-requires c κs = search needs
-
 returns-2 : tie.Need-returns-2
 returns-2 c vs =
     rw (
@@ -18,9 +15,6 @@ returns-2 c vs =
       ← c .before .before .before .highest-of .ensures vs,
       ne-eqb _ _ (c .if2 .taken),
     )
-
-is-change-requires : tie.Need-is-change-requires
-is-change-requires c κs = search needs
 
 returns-3 : tie.Need-returns-3
 returns-3 c vs =
@@ -34,4 +28,4 @@ returns-3 c vs =
 
 pub may-undo-spec : {M : Type 1} → statement M
 may-undo-spec =
-    tie.close (tie.spec returns highest-of-requires returns-2 is-change-requires returns-3)
+    tie.close (tie.spec returns (λ c κs. search needs) returns-2 (λ c κs. search needs) returns-3)

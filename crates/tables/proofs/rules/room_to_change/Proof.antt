@@ -3,12 +3,6 @@ use borrow.Author.Needs.{needs}
 use Rattle.tables.proofs.rules.room_to_change.Statement.{statement}
 use Rattle.tables.proofs.rules.room_to_change.Tie as tie
 
-has-entry-requires : tie.Need-has-entry-requires
-has-entry-requires c κs = search needs
-
-has-room-requires : tie.Need-has-room-requires
-has-room-requires c κs = search needs
-
 returns : tie.Need-returns
 returns c vs = rw (← c .before .before .has-entry .ensures vs, c .before .if1 .taken, c .has-room .ensures vs)
 
@@ -17,4 +11,4 @@ returns-2 c vs = rw (← c .before .has-entry .ensures vs, c .if1 .left)
 
 pub room-to-change-spec : {M : Type 1} → statement M
 room-to-change-spec =
-    tie.close (tie.spec has-entry-requires has-room-requires returns returns-2)
+    tie.close (tie.spec (λ c κs. search needs) (λ c κs. search needs) returns returns-2)

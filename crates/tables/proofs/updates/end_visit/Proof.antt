@@ -4,15 +4,6 @@ use Rattle.tables_model.specs.Table.{scopesEnded}
 use Rattle.tables.proofs.updates.end_visit.Statement.{statement}
 use Rattle.tables.proofs.updates.end_visit.Tie as tie
 
-close-ranks-requires : tie.Need-close-ranks-requires
-close-ranks-requires c κs = search needs
-
-clear-from-requires : tie.Need-clear-from-requires
-clear-from-requires c κs = search needs
-
-same-length : tie.Need-same-length
-same-length c = search needs
-
 returns : tie.Need-returns
 unfolding scopesEnded
 returns c =
@@ -20,4 +11,4 @@ returns c =
     rw (c .before .before .clear-from .ensures, e .kept, e .count)
 
 pub end-visit-spec : {M : Type 1} → statement M
-end-visit-spec = tie.close (tie.spec close-ranks-requires clear-from-requires same-length returns)
+end-visit-spec = tie.close (tie.spec (λ c κs. search needs) (λ c κs. search needs) (λ c. search needs) returns)

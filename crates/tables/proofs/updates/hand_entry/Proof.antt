@@ -5,21 +5,6 @@ use borrow.Author.Needs.{needs}
 use Rattle.tables.proofs.updates.hand_entry.Statement.{statement}
 use Rattle.tables.proofs.updates.hand_entry.Tie as tie
 
-entry-at-requires : tie.Need-entry-at-requires
-entry-at-requires c κs = search needs
-
-is-held-requires : tie.Need-is-held-requires
-is-held-requires c κs = search needs
-
-passed-requires : tie.Need-passed-requires
-passed-requires c κs = search needs
-
-put-entry-requires : tie.Need-put-entry-requires
-put-entry-requires c κs = search needs
-
-same-length : tie.Need-same-length
-same-length c = search needs
-
 returns : tie.Need-returns
 returns c =
     let h = c .before .before .before .before .before .before in
@@ -31,9 +16,6 @@ returns c =
       c .before .before .before .before .before .if1 .taken,
     )
 
-same-length-2 : tie.Need-same-length-2
-same-length-2 c = search needs
-
 returns-2 : tie.Need-returns-2
 returns-2 c =
     let e = c .before .before .entry-at .ensures in
@@ -43,11 +25,11 @@ pub hand-entry-spec : {M : Type 1} → statement M
 hand-entry-spec =
     tie.close
     (tie.spec
-    entry-at-requires
-    is-held-requires
-    passed-requires
-    put-entry-requires
-    same-length
+    (λ c κs. search needs)
+    (λ c κs. search needs)
+    (λ c κs. search needs)
+    (λ c κs. search needs)
+    (λ c. search needs)
     returns
-    same-length-2
+    (λ c. search needs)
     returns-2)

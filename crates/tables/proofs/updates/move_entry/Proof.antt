@@ -7,36 +7,15 @@ use Rattle.tables_model.specs.Table.{movedAt}
 use Rattle.tables.proofs.updates.move_entry.Statement.{statement}
 use Rattle.tables.proofs.updates.move_entry.Tie as tie
 
-entry-at-requires : tie.Need-entry-at-requires
-entry-at-requires c κs = search needs
-
-same-length : tie.Need-same-length
-same-length c = search needs
-
 returns : tie.Need-returns
 unfolding movedAt
 returns c = rw (← c .before .before .before .entry-at .ensures, eq-eqb _ _ (c .if1 .taken))
-
-add-result : tie.Need-add-result
-add-result c = search needs
-
-same-length-2 : tie.Need-same-length-2
-same-length-2 c = search needs
 
 returns-2 : tie.Need-returns-2
 unfolding movedAt
 returns-2 c =
     let e = c .before .before .before .before .entry-at .ensures in
     rw (← e, ne-eqb _ _ (c .before .if1 .left), e, c .if2 .taken, set-getD, add-one)
-
-put-entry-requires : tie.Need-put-entry-requires
-put-entry-requires c κs = search needs
-
-add-result-2 : tie.Need-add-result-2
-add-result-2 c = search needs
-
-same-length-3 : tie.Need-same-length-3
-same-length-3 c = search needs
 
 returns-3 : tie.Need-returns-3
 unfolding movedAt
@@ -52,13 +31,13 @@ pub move-entry-spec : {M : Type 1} → statement M
 move-entry-spec =
     tie.close
     (tie.spec
-    entry-at-requires
-    same-length
+    (λ c κs. search needs)
+    (λ c. search needs)
     returns
-    add-result
-    same-length-2
+    (λ c. search needs)
+    (λ c. search needs)
     returns-2
-    put-entry-requires
-    add-result-2
-    same-length-3
+    (λ c κs. search needs)
+    (λ c. search needs)
+    (λ c. search needs)
     returns-3)

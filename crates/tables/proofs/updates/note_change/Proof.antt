@@ -10,12 +10,6 @@ use Rattle.tables.proofs.Searches.{find-below}
 use Rattle.tables.proofs.updates.note_change.Statement.{statement}
 use Rattle.tables.proofs.updates.note_change.Tie as tie
 
-find-growing-requires : tie.Need-find-growing-requires
-find-growing-requires c κs = search needs
-
-enum-known-found : tie.Need-enum-known-found
-enum-known-found c = search needs
-
 -- the entry found lies within the table
 inside : (c : tie.After-found) → let s = c .before .before .before .before .before in Inside (length (s .args .t .now)) (c .found .given .0 .0)
 inside c =
@@ -26,29 +20,14 @@ inside c =
 entry-at-requires : tie.Need-entry-at-requires
 entry-at-requires c κs = inside (c .before .before)
 
-grown-requires : tie.Need-grown-requires
-grown-requires c κs = search needs
-
 put-entry-requires : tie.Need-put-entry-requires
 put-entry-requires c κs = inside (c .before .before .before .before .before)
-
-enum-told : tie.Need-enum-told
-enum-told c = search needs
-
-started-requires : tie.Need-started-requires
-started-requires c κs = search needs
 
 put-entry-requires-2 : tie.Need-put-entry-requires-2
 put-entry-requires-2 c κs =
     let s = c .before .before .before .before .before .before .before in
     let e = sym (c .before .before .before .before .find-growing .ensures) ∙ c .before .before .enum-told .given .1 in
     record { long = s .pre .long; below = s .pre .room e }
-
-add-result : tie.Need-add-result
-add-result c = search needs
-
-same-length : tie.Need-same-length
-same-length c = search needs
 
 returns : tie.Need-returns
 unfolding scopesChanged
@@ -60,9 +39,6 @@ returns c =
       c .before .before .before .grown .ensures,
       ← c .before .before .before .before .before .entry-at .ensures,
     )
-
-same-length-2 : tie.Need-same-length-2
-same-length-2 c = search needs
 
 returns-2 : tie.Need-returns-2
 unfolding scopesChanged
@@ -79,16 +55,16 @@ pub note-change-spec : {M : Type 1} → statement M
 note-change-spec =
     tie.close
     (tie.spec
-    find-growing-requires
-    enum-known-found
+    (λ c κs. search needs)
+    (λ c. search needs)
     entry-at-requires
-    grown-requires
+    (λ c κs. search needs)
     put-entry-requires
-    enum-told
-    started-requires
+    (λ c. search needs)
+    (λ c κs. search needs)
     put-entry-requires-2
-    add-result
-    same-length
+    (λ c. search needs)
+    (λ c. search needs)
     returns
-    same-length-2
+    (λ c. search needs)
     returns-2)

@@ -3,18 +3,6 @@ use borrow.Author.Needs.{needs}
 use Rattle.tables.proofs.updates.undo_at.Statement.{statement}
 use Rattle.tables.proofs.updates.undo_at.Tie as tie
 
-entry-at-requires : tie.Need-entry-at-requires
-entry-at-requires c κs = search needs
-
-lowered-requires : tie.Need-lowered-requires
-lowered-requires c κs = search needs
-
-put-entry-requires : tie.Need-put-entry-requires
-put-entry-requires c κs = search needs
-
-same-length : tie.Need-same-length
-same-length c = search needs
-
 returns : tie.Need-returns
 returns c =
     rw (
@@ -25,4 +13,4 @@ returns c =
 
 pub undo-at-spec : {M : Type 1} → statement M
 undo-at-spec =
-    tie.close (tie.spec entry-at-requires lowered-requires put-entry-requires same-length returns)
+    tie.close (tie.spec (λ c κs. search needs) (λ c κs. search needs) (λ c κs. search needs) (λ c. search needs) returns)

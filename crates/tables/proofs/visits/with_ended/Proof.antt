@@ -4,15 +4,6 @@ use borrow.Author.Needs.{needs}
 use Rattle.tables.proofs.visits.with_ended.Statement.{statement}
 use Rattle.tables.proofs.visits.with_ended.Tie as tie
 
-close-ranks-requires : tie.Need-close-ranks-requires
-close-ranks-requires c κs = search needs
-
-vacate-from-requires : tie.Need-vacate-from-requires
-vacate-from-requires c κs = search needs
-
-same-length : tie.Need-same-length
-same-length c = search needs
-
 returns : tie.Need-returns
 unfolding withEnded
 returns c =
@@ -20,4 +11,4 @@ returns c =
 
 pub with-ended-spec : {M : Type 1} → statement M
 with-ended-spec =
-    tie.close (tie.spec close-ranks-requires vacate-from-requires same-length returns)
+    tie.close (tie.spec (λ c κs. search needs) (λ c κs. search needs) (λ c. search needs) returns)
