@@ -1,8 +1,8 @@
 -- What a call promises whatever it was handed: the numbers of its table, refusals that change nothing, and what a power failure leaves.
 use Prim.Native.Nat.{ℕ, zero, suc, _+_}
 use native.Mathlib.Omega.{arith}
-use mathlib.Core.Path.{_≡_, refl, ap, sym, _∙_}
-use mathlib.Core.Logic.{_≢_, _⊎_, inl, inr}
+use mathlib.Core.Path.{_≡_, refl, ap, sym, _∙_, subst}
+use mathlib.Core.Logic.{_≢_}
 use mathlib.Core.Bool.{Bool, true, false, cond, not, _||_}
 use mathlib.Core.List.{List, map}
 use lib.IntN.{ℤ, pos}
@@ -14,15 +14,15 @@ use Rattle.book.specs.Rows.{isCell}
 use Rattle.book.specs.Ledger.{only}
 use Rattle.book.specs.Calls.{Call}
 use Rattle.book.proofs.Lists.{clash}
-use Rattle.tables_model.specs.declared.Tables.{Tables}
 use Rattle.tables_model.specs.Visits.{isListed}
 use Rattle.tables_model.specs.Rows.{Index, roomBy, growsBy, holdsBy}
 use Rattle.state.specs.declared.ram.Phase.{Phase}
 use Rattle.state.specs.declared.ram.Phase.the-variants.{Open, Closed}
 use Rattle.state.specs.declared.ram.Fuse.{Fuse}
 use Rattle.state.specs.declared.ram.Fuse.the-variants.{Unlimited, Left}
-use Rattle.state.specs.World.{World, rightLengths, isOpenPhase, cleared}
+use Rattle.state.specs.World.{World, rightLengths, isOpenPhase, inLimits, works, cleared}
 use Rattle.state.specs.Contracts.{Answered, answered, numbers}
+use Rattle.state.proofs.OwnNumbers.{Own, own, check, own-listed, own-not-five}
 use Rattle.journal.specs.declared.Control.{Control}
 use Rattle.journal.specs.Journal.{paged}
 use Rattle.wal.specs.Writing.{isRunning}
@@ -32,46 +32,23 @@ use Rattle.calls_model.specs.Perform.{controlIn, coreOf, worldOfCore, se
 
 -- ── The numbers ───────────────────────────────────────────────────────────────────────────────────────────────────────
 
--- the number is one of the call's
-record Among (k : Call) (n : ℕ) : Type 0 where
-  is : member n (numbers k) ≡ true
-
--- a check whose number is one of them, and later ones whose numbers are
-check : {k : Call} {n m : ℕ} (t : Bool) → Among k n → Among k m → Among k (cond t n m)
-check true p q = p
-check false p q = q
-
--- a number that stands in the list
-listed : {k : Call} {n : ℕ} → member n (numbers k) ≡ true → Among k n
-listed e = record { is = e }
-
-refusal-in : (x : Index) (rows : ℕ) (k : Call) → Among k (refusalBy x rows k)
+-- the checks of a call by the tables
+refusal-own : (x : Index) (rows : ℕ) (k : Call) → Own k (refusalBy x rows k)
 unfolding refusalBy
-refusal-in x rows Call.begin =
-    check (leb visitLimit (x .tables .begun)) (listed refl) (check (leb activeLimit (x .tables .count)) (listed refl)
-    (check (not (roomBy x rows 2)) (listed refl) (listed refl)))
-refusal-in x rows (Call.change v c a) =
-    check (not (isListed (x .tables) v)) (listed refl) (check (not (isCell c)) (listed refl)
-    (check (not (growsBy x v c || ltb (x .tables .used) scopeLimit)) (listed refl) (check (not (roomBy x rows 2)) (listed refl) (listed refl))))
-refusal-in x rows (Call.handOver g r c) =
-    check (not (isListed (x .tables) g)) (listed refl) (check (not (isListed (x .tables) r)) (listed refl) (check (eqb g r) (listed refl)
-    (check (not (isCell c)) (listed refl) (check (not (holdsBy x g (only c))) (listed refl) (check (not (roomBy x rows 1)) (listed refl) (listed refl))))))
-refusal-in x rows (Call.commit v) = check (not (isListed (x .tables) v)) (listed refl) (listed refl)
-refusal-in x rows (Call.abort v) = check (not (isListed (x .tables) v)) (listed refl) (listed refl)
-refusal-in x rows Call.force = listed refl
-refusal-in x rows (Call.flush p) = check (not (ltb p pageLimit)) (listed refl) (listed refl)
-refusal-in x rows (Call.read c) = check (not (isCell c)) (listed refl) (listed refl)
-
--- every call may be done, be lent a wrong length, and find the store closed
-always : (k : Call) → Among k 0 × Among k 1 × Among k 5
-always Call.begin = (listed refl, listed refl, listed refl)
-always (Call.change v c a) = (listed refl, listed refl, listed refl)
-always (Call.handOver g r c) = (listed refl, listed refl, listed refl)
-always (Call.commit v) = (listed refl, listed refl, listed refl)
-always (Call.abort v) = (listed refl, listed refl, listed refl)
-always Call.force = (listed refl, listed refl, listed refl)
-always (Call.flush p) = (listed refl, listed refl, listed refl)
-always (Call.read c) = (listed refl, listed refl, listed refl)
+refusal-own x rows Call.begin =
+    check (leb visitLimit (x .tables .begun)) (own refl) (check (leb activeLimit (x .tables .count)) (own refl)
+    (check (not (roomBy x rows 2)) (own refl) (own refl)))
+refusal-own x rows (Call.change v c a) =
+    check (not (isListed (x .tables) v)) (own refl) (check (not (isCell c)) (own refl)
+    (check (not (growsBy x v c || ltb (x .tables .used) scopeLimit)) (own refl) (check (not (roomBy x rows 2)) (own refl) (own refl))))
+refusal-own x rows (Call.handOver g r c) =
+    check (not (isListed (x .tables) g)) (own refl) (check (not (isListed (x .tables) r)) (own refl) (check (eqb g r) (own refl)
+    (check (not (isCell c)) (own refl) (check (not (holdsBy x g (only c))) (own refl) (check (not (roomBy x rows 1)) (own refl) (own refl))))))
+refusal-own x rows (Call.commit v) = check (not (isListed (x .tables) v)) (own refl) (own refl)
+refusal-own x rows (Call.abort v) = check (not (isListed (x .tables) v)) (own refl) (own refl)
+refusal-own x rows Call.force = own refl
+refusal-own x rows (Call.flush p) = check (not (ltb p pageLimit)) (own refl) (own refl)
+refusal-own x rows (Call.read c) = check (not (isCell c)) (own refl) (own refl)
 
 -- ── A power failure ───────────────────────────────────────────────────────────────────────────────────────────────────
 
@@ -117,46 +94,69 @@ settled-either x k v = go (isRunning (acted x k .ram .journal)) refl
 
 -- ── What a call promises ──────────────────────────────────────────────────────────────────────────────────────────────
 
+-- not all of the three tests that come before the call's own checks are passed, or all are
+data Starts (w : World) (n : ℕ) (m : ℕ) : Type 0 where
+  wrong : n ≡ 1 → rightLengths w ≡ false → Starts w n m
+  idle : n ≡ 5 → works (w .state) ≡ false → Starts w n m
+  checked : n ≡ m → works (w .state) ≡ true → Starts w n m
+
 -- refused with this number and nothing changed, or accepted
 data Ends (w : World) (k : Call) (r : Answered) : Type 0 where
-  refuses : (n : ℕ) → Among k (suc n) → r ≡ answered (suc n) (pos 0) w → Ends w k r
+  refuses : (n : ℕ) → member (suc n) (numbers k) ≡ true → (works (w .state) ≡ true → suc n ≢ 5) → r ≡ answered (suc n) (pos 0) w → Ends w k r
   accepts : Settled (w .charts) r → Ends w k r
 
 module _ (w : World) (k : Call) where
-  number-in : Among k (numberOf w k)
-  unfolding numberOf
-  number-in =
-      let c : Control = controlIn (w .state) in
-      let t : Tables = w .state .tables in
-      check (not (rightLengths w)) (always k .1) (check (not (isOpenPhase (c .phase))) (always k .2) (check (not (isCoherent c t)) (always k .2)
-      (refusal-in (record { tables = t; scopes = map scopeIn (w .scopes) }) (c .stored + c .waiting) k)))
+  abbrev ownCheck : ℕ
+  ownCheck = let c : Control = controlIn (w .state) in refusalBy (record { tables = w .state .tables; scopes = map scopeIn (w .scopes) }) (c .stored + c .waiting) k
+
+  starts : Starts w (numberOf w k) ownCheck
+  unfolding numberOf isCoherent
+  starts = go (rightLengths w) (isOpenPhase (w .state .phase)) (inLimits (w .state)) refl refl refl
+    where
+      go : (l o i : Bool) → rightLengths w ≡ l → isOpenPhase (w .state .phase) ≡ o → inLimits (w .state) ≡ i
+          → Starts w (cond (not l) 1 (cond (not o) 5 (cond (not i) 5 ownCheck))) ownCheck
+      go false o i p q r = wrong refl p
+      go true false i p q r = idle refl (rw q)
+      go true true false p q r = idle refl (rw (q, r))
+      go true true true p q r = checked refl (rw (q, r))
 
   ends : Ends w k (performed w k)
   unfolding performed coreOf
-  ends = go (numberOf w k) number-in
+  ends = go (numberOf w k) starts
     where
-      go : (n : ℕ) → Among k n → Ends w k (decided w k n)
-      go zero a = accepts (settled-either (coreOf w) k _)
-      go (suc n) a = refuses n a refl
+      each : (n : ℕ) → Own k n → Ends w k (decided w k n)
+      each zero o = accepts (settled-either (coreOf w) k _)
+      each (suc n) o = refuses n (own-listed k (suc n) o) (λ t. own-not-five k (suc n) o) refl
+
+      go : (n : ℕ) → Starts w n ownCheck → Ends w k (decided w k n)
+      go n (wrong e l) = subst (λ (m : ℕ). Ends w k (decided w k m)) (sym e) (refuses 0 refl (λ t z. absurd (omega arith)) refl)
+      go n (idle e i) = subst (λ (m : ℕ). Ends w k (decided w k m)) (sym e) (refuses 4 refl (λ t. clash _ t i) refl)
+      go n (checked e t) = subst (λ (m : ℕ). Ends w k (decided w k m)) (sym e) (each ownCheck (refusal-own _ _ k))
 
   pub number-listed : member (performed w k .answer .number) (numbers k) ≡ true
   number-listed = go (performed w k) ends
     where
       settle : (r : Answered) → Settled (w .charts) r → member (r .answer .number) (numbers k) ≡ true
-      settle r (done e) = ap (λ (n : ℕ). member n (numbers k)) e ∙ always k .0 .is
-      settle r (closed e) = ap (λ (q : Answered). member (q .answer .number) (numbers k)) e ∙ always k .2 .is
+      settle r (done e) = rw e
+      settle r (closed e) = ap (λ (q : Answered). member (q .answer .number) (numbers k)) e
 
       go : (r : Answered) → Ends w k r → member (r .answer .number) (numbers k) ≡ true
-      go r (refuses n a e) = ap (λ (q : Answered). member (q .answer .number) (numbers k)) e ∙ a .is
+      go r (refuses n m other e) = ap (λ (q : Answered). member (q .answer .number) (numbers k)) e ∙ m
       go r (accepts s) = settle r s
 
   pub wrong-lengths : rightLengths w ≡ false → performed w k ≡ answered 1 (pos 0) w
   unfolding performed numberOf
   wrong-lengths e = rw e
 
-  pub closed-store : rightLengths w ≡ true → isOpenPhase (w .state .phase) ≡ false → performed w k ≡ answered 5 (pos 0) w
-  unfolding performed numberOf
-  closed-store l e = rw (l, e)
+  -- closed, or with counters beyond their limits
+  pub idle-store : rightLengths w ≡ true → works (w .state) ≡ false → performed w k ≡ answered 5 (pos 0) w
+  unfolding performed
+  idle-store l e = go (numberOf w k) starts
+    where
+      go : (n : ℕ) → Starts w n ownCheck → decided w k n ≡ answered 5 (pos 0) w
+      go n (wrong z p) = clash _ l p
+      go n (idle z p) = ap (decided w k) z
+      go n (checked z p) = clash _ p e
 
   pub nothing-changes : performed w k .answer .number ≢ 0 → performed w k .answer .number ≢ 5
       → performed w k ≡ answered (performed w k .answer .number) (pos 0) w
@@ -167,18 +167,35 @@ module _ (w : World) (k : Call) where
       settle r (closed e) h five = absurd (five (ap (λ (q : Answered). q .answer .number) e))
 
       go : (r : Answered) → Ends w k r → r .answer .number ≢ 0 → r .answer .number ≢ 5 → r ≡ answered (r .answer .number) (pos 0) w
-      go r (refuses n a e) h five = e ∙ ap (λ (q : Answered). answered (q .answer .number) (pos 0) w) (sym e)
+      go r (refuses n m other e) h five = e ∙ ap (λ (q : Answered). answered (q .answer .number) (pos 0) w) (sym e)
       go r (accepts s) h five = settle r s h five
 
-  pub power-failed : performed w k .answer .number ≡ 5
-      → (performed w k ≡ answered 5 (pos 0) w) ⊎ (performed w k ≡ answered 5 (pos 0) (cleared (performed w k .world .log) (w .charts)))
+  pub power-failed : works (w .state) ≡ true → performed w k .answer .number ≡ 5
+      → performed w k ≡ answered 5 (pos 0) (cleared (performed w k .world .log) (w .charts))
   power-failed = go (performed w k) ends
     where
-      settle : (r : Answered) → Settled (w .charts) r → r .answer .number ≡ 5
-          → (r ≡ answered 5 (pos 0) w) ⊎ (r ≡ answered 5 (pos 0) (cleared (r .world .log) (w .charts)))
+      settle : (r : Answered) → Settled (w .charts) r → r .answer .number ≡ 5 → r ≡ answered 5 (pos 0) (cleared (r .world .log) (w .charts))
       settle r (done e) h = absurd (omega arith)
-      settle r (closed e) h = inr e
+      settle r (closed e) h = e
 
-      go : (r : Answered) → Ends w k r → r .answer .number ≡ 5 → (r ≡ answered 5 (pos 0) w) ⊎ (r ≡ answered 5 (pos 0) (cleared (r .world .log) (w .charts)))
-      go r (refuses n a e) h = inl (e ∙ ap (λ (m : ℕ). answered m (pos 0) w) (sym (ap (λ (q : Answered). q .answer .number) e) ∙ h))
-      go r (accepts s) h = settle r s h
+      go : (r : Answered) → Ends w k r → works (w .state) ≡ true → r .answer .number ≡ 5 → r ≡ answered 5 (pos 0) (cleared (r .world .log) (w .charts))
+      go r (refuses n m other e) t h = absurd (other t (sym (ap (λ (q : Answered). q .answer .number) e) ∙ h))
+      go r (accepts s) t h = settle r s h
+
+  -- no check of a call that works has the number 5
+  pub works-not-five : works (w .state) ≡ true → numberOf w k ≢ 5
+  works-not-five t = go (numberOf w k) starts
+    where
+      go : (n : ℕ) → Starts w n ownCheck → n ≢ 5
+      go n (wrong e l) = λ z. absurd (omega arith)
+      go n (idle e i) = clash _ t i
+      go n (checked e i) = λ z. own-not-five k ownCheck (refusal-own _ _ k) (sym e ∙ z)
+
+  -- and a call that no check refuses works
+  pub zero-works : numberOf w k ≡ 0 → works (w .state) ≡ true
+  zero-works z = go (numberOf w k) starts z
+    where
+      go : (n : ℕ) → Starts w n ownCheck → n ≡ 0 → works (w .state) ≡ true
+      go n (wrong e l) q = absurd (omega arith)
+      go n (idle e i) q = absurd (omega arith)
+      go n (checked e i) q = i

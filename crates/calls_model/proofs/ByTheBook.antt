@@ -1,27 +1,21 @@
 -- What a call makes of values that stand for a book: what the book makes of the call, and the values that stand for the book after it.
-use Prim.Native.Nat.{ℕ, zero, suc, _+_}
+use Prim.Native.Nat.{ℕ, zero, suc}
 use native.Mathlib.Omega.{arith}
 use mathlib.Core.Path.{_≡_, refl, ap, sym, _∙_}
 use mathlib.Core.Bool.{Bool, true, false, cond, not}
 use mathlib.Core.List.{List}
-use lib.ListN.{length, length-append}
 use lib.IntN.{ℤ, pos}
-use borrow.Author.Tests.{le-leb, ne-eqb}
-use Rattle.book.specs.Limits.{rowLimit, tailLimit, activeLimit, scopeLimit}
-use Rattle.book.specs.Rows.{Row}
+use borrow.Author.Tests.{ne-eqb}
 use Rattle.book.specs.Calls.{Call, Typed, Ending, waits, forces, flushes, ending}
-use Rattle.book.specs.Power.{Book, Fuse, rowsOf, ledgerOf}
+use Rattle.book.specs.Power.{Book, rowsOf, ledgerOf}
 use Rattle.book.specs.Book.{answer, Outcome, refused, refusal, through, value, accepted, decide, call}
 use Rattle.book.specs.Logs.{Sound}
 use Rattle.book.specs.Pages.{pageBytes, pageAfter}
-use Rattle.book.proofs.Lists.{clash, and-i}
-use Rattle.book.proofs.InvariantKept.{few-rows}
-use Rattle.book.proofs.Steps.{bookOf}
 use Rattle.book.proofs.Sound.{sound-through}
-use Rattle.tables_model.specs.Meaning.{tablesOf}
 use Rattle.tables_model.specs.Lookup.{indexOf}
-use Rattle.tables_model.proofs.WithinLimits.{in-range}
-use Rattle.state.specs.World.{World, rightLengths, isOpenPhase, closedState, openState, stateOf, worldOf, Represents}
+use Rattle.state.specs.World.{World, rightLengths, stateOf, worldOf, Represents}
+use Rattle.state.proofs.SameBook.{phase-open}
+use Rattle.state.proofs.Works.{state-in-limits, works-open}
 use Rattle.state.specs.Contracts.{Answered, answered, withPage, chartsAfter, byBook}
 use Rattle.wal.specs.Writing.{rowCount}
 use Rattle.wal.proofs.Steady.{steady-sound}
@@ -31,7 +25,7 @@ use Rattle.calls_model.specs.Acts.{Core, acted, valueBy}
 use Rattle.calls_model.specs.Perform.{isCoherent, controlIn, coreOf, settled, decided, numberOf, performed}
 use Rattle.calls_model.proofs.Refusing.{refusal-by}
 use Rattle.calls_model.proofs.Cores.{coreFor, core-of, settled-is}
-use Rattle.calls_model.proofs.AnyWorld.{closed-store}
+use Rattle.calls_model.proofs.AnyWorld.{idle-store}
 use Rattle.calls_model.proofs.AcceptedCalls.{InRange, acted-reaches, value-is}
 
 -- a call that is not done writes no page
@@ -46,29 +40,10 @@ abbrev outcomeIn : (ℕ → ℤ) → Book → Call → List ℕ → Outcome → 
 outcomeIn cells b k charts o =
     record { answer = o .answer; world = worldOf cells (o .book) (chartsAfter cells b (ending k) (o .answer .number) charts) }
 
-phase-is : (b : Book) → isOpenPhase (stateOf b .phase) ≡ b .isOpen
-unfolding stateOf
-phase-is b = go (b .stored) (b .waiting) (b .fuse) (b .isOpen)
-  where
-    go : (s w : List Row) (f : Fuse) (t : Bool) → isOpenPhase (stateOf (bookOf s w f t) .phase) ≡ t
-    go s w f true = refl
-    go s w f false = refl
-
--- the counters of an open book are within their limits
-coherent : (b : Book) → Sound b → b .isOpen ≡ true → isCoherent (controlIn (stateOf b)) (stateOf b .tables) ≡ true
-unfolding stateOf isCoherent
-coherent b s o = go (b .isOpen) o
-  where
-    go : (t : Bool) → t ≡ true → let x = cond t (openState b) closedState in isCoherent (controlIn x) (x .tables) ≡ true
-    go true e =
-        let r = in-range (rowsOf b) (s .allowed) in
-        let few = few-rows (rowsOf b) (s .allowed) in
-        let long = length-append (b .stored) (b .waiting) in
-        and-i _ _ (and-i _ _ (and-i _ _ (le-leb (length (b .waiting)) tailLimit (s .tail))
-        (le-leb (length (b .stored) + length (b .waiting)) rowLimit (omega arith)))
-        (le-leb (tablesOf (ledgerOf b) .count) activeLimit (r .count)))
-        (le-leb (tablesOf (ledgerOf b) .used) scopeLimit (r .used))
-    go false e = clash false e refl
+-- the counters of a sound book are within their limits
+coherent : (b : Book) → Sound b → isCoherent (controlIn (stateOf b)) (stateOf b .tables) ≡ true
+unfolding isCoherent
+coherent b s = state-in-limits b s
 
 module _ (cells : ℕ → ℤ) (b : Book) (charts : List ℕ) (k : Call) (range : InRange cells) (s : Sound b) (t : Typed k)
     (right : rightLengths (worldOf cells b charts) ≡ true) where
@@ -82,7 +57,7 @@ module _ (cells : ℕ → ℤ) (b : Book) (charts : List ℕ) (k : Call) (range 
         (rowCount (coreOf (worldOf cells b charts) .ram .journal)) k ≡ refusal b k =
         ap (λ (x : Core). refusalBy (record { tables = x .tables; scopes = x .scopes }) (rowCount (x .ram .journal)) k) (core-of cells charts b o) ∙
         ap (λ (n : ℕ). refusalBy (indexOf (ledgerOf b)) n k) (count-rows b) ∙ refusal-by b (steady-sound b s) k in
-        rw (right, phase-is b ∙ o, coherent b s o) checks
+        rw (right, phase-open b ∙ o, coherent b s) checks
 
     accepted-is : refusal b k ≡ 0 → decided (worldOf cells b charts) k 0 ≡ outcomeIn cells b k charts (decide cells b k 0)
     unfolding accepted
@@ -116,7 +91,7 @@ module _ (cells : ℕ → ℤ) (b : Book) (charts : List ℕ) (k : Call) (range 
   closed-is : b .isOpen ≡ false → performed (worldOf cells b charts) k ≡ outcomeIn cells b k charts (call cells b true k)
   unfolding call worldOf
   closed-is o =
-      closed-store (worldOf cells b charts) k right (phase-is b ∙ o) ∙
+      idle-store (worldOf cells b charts) k right (works-open b s ∙ o) ∙
       ap (λ (cs : List ℕ). answered 5 (pos 0) (worldOf cells b cs)) (sym (charts-kept cells b (ending k) 4 charts)) ∙
       ap (λ (u : Bool). outcomeIn cells b k charts (decide cells b k (cond (not u) 5 (refusal b k)))) (sym o)
 

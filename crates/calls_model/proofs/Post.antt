@@ -3,14 +3,14 @@ use Rattle.book.specs.Calls.{Call, Typed}
 use Rattle.state.specs.World.{World}
 use Rattle.state.specs.Contracts.{CallPost}
 use Rattle.calls_model.specs.Perform.{performed}
-use Rattle.calls_model.proofs.AnyWorld.{number-listed, wrong-lengths, closed-store, nothing-changes, power-failed}
+use Rattle.calls_model.proofs.AnyWorld.{number-listed, wrong-lengths, idle-store, nothing-changes, power-failed}
 use Rattle.calls_model.proofs.ByTheBook.{by-the-book}
 
 pub performed-post : (w : World) (k : Call) → Typed k → CallPost k w (performed w k)
 performed-post w k t = record {
   table = number-listed w k;
   lengths = wrong-lengths w k;
-  shut = closed-store w k;
+  shut = idle-store w k;
   keeps = nothing-changes w k;
   cut = power-failed w k;
   is = by-the-book w k t;

@@ -17,14 +17,15 @@ use Rattle.tables_model.specs.Layout.{entries}
 use Rattle.tables_model.specs.Visits.{tablesIn}
 use Rattle.tables_model.proofs.EntriesBack.{entries-back}
 use Rattle.state.specs.Answers.{numberAndValue}
-use Rattle.state.specs.World.{rightLengths, isOpenPhase, inLimits, cleared}
+use Rattle.state.specs.World.{rightLengths, isOpenPhase, works, cleared}
 use Rattle.state.specs.Contracts.{Answered, answered, CallPost}
 use Rattle.state.proofs.Cases.{refusal-case}
 use Rattle.journal.specs.declared.Outcome.{Outcome}
 use Rattle.journal.specs.Outcomes.{outcome}
 use Rattle.wal.specs.Writing.{isRunning}
 use Rattle.calls_model.specs.Acts.{Core, core, acted, valueBy, Accepts}
-use Rattle.calls_model.specs.Perform.{coreOf, worldOfCore as worldLeft, settled, isCoherent, numberBy, numberOf, performed, acceptedBy, Accepted}
+use Rattle.calls_model.specs.Perform.{coreOf, worldOfCore as worldLeft, settled, numberBy, numberOf, performed, acceptedBy, Accepted}
+use Rattle.calls_model.proofs.AnyWorld.{works-not-five, zero-works}
 use Rattle.calls_model.proofs.Post.{performed-post}
 use Rattle.calls.proofs.Performing.{passed, when-refused}
 use Rattle.embed_model.specs.Arrays.{Arrays, arrays, worldIn, RamLengths}
@@ -32,7 +33,6 @@ use Rattle.embed_model.specs.Head.{controlBy, countsBy, headOf}
 use Rattle.embed_model.specs.Packed.{answerIn}
 use Rattle.embed_model.specs.Called.{answeredIn, CallsOfC}
 use Rattle.embed_model.proofs.Arrays.{only-stored, control-back, outcome-is, zeroed}
-use Rattle.embed.proofs.Fives.{beyond-five, within-not-five}
 
 -- ── RamLengths ───────────────────────────────────────────────────────────────────────────────────────────────────────────
 
@@ -56,11 +56,6 @@ phase-in : (x : Arrays) → isOpenPhase (controlBy (x .head) .phase) ≡ isOpenP
 unfolding worldIn
 phase-in x = refl
 
--- the counters that the head says
-limits-in : (x : Arrays) → isCoherent (controlBy (x .head)) (tablesIn (countsBy (x .head)) (x .visits)) ≡ inLimits (worldIn x .state)
-unfolding isCoherent worldIn
-limits-in x = refl
-
 -- what the checks of a call answer
 abbrev pub numberIn : Arrays → Call → ℕ
 numberIn x k = numberBy (controlBy (x .head)) (tablesIn (countsBy (x .head)) (x .visits)) (entries (x .scopes)) k
@@ -83,9 +78,7 @@ module _ (k : Call) (x : Arrays) (right : rightLengths (worldIn x) ≡ true) whe
         does = rw says (subst (CallPost k (worldIn x)) (sym is) (performed-post (worldIn x) k typed));
         keeps = λ p q. refl;
         shut = λ p. refl;
-        beyond = λ p l. (says ∙ e ∙ ap refusedBy (beyond-five (x .head) (x .visits) (entries (x .scopes)) k (limits-in x ∙ l)), refl);
-        cut = λ o l p.
-            absurd (within-not-five (x .head) (x .visits) (entries (x .scopes)) k (phase-in x ∙ o) (limits-in x ∙ l) (sym (ap (λ (b : Answer). b .number) (says ∙ e)) ∙ p));
+        cut = λ t p. absurd (works-not-five (worldIn x) k t (numbered ∙ sym (ap (λ (b : Answer). b .number) (says ∙ e)) ∙ p));
         done = λ z. absurd (other (sym (ap (λ (b : Answer). b .number) says) ∙ z));
         sized = long;
       }
@@ -100,8 +93,8 @@ passes k x a e z = sym (ap (λ (b : Answer). b .number) e) ∙ z
 is-open : (k : Call) (x : Arrays) → numberIn x k ≡ 0 → isOpenPhase (worldIn x .state .phase) ≡ true
 is-open k x free = sym (phase-in x) ∙ passed (controlBy (x .head)) (countsBy (x .head)) (x .visits) (entries (x .scopes)) k free .running
 
-is-within : (k : Call) (x : Arrays) → numberIn x k ≡ 0 → inLimits (worldIn x .state) ≡ false → ⊥
-is-within k x free l = let five = sym (beyond-five (x .head) (x .visits) (entries (x .scopes)) k (limits-in x ∙ l)) ∙ free in omega arith
+is-working : (k : Call) (x : Arrays) → rightLengths (worldIn x) ≡ true → numberIn x k ≡ 0 → works (worldIn x .state) ≡ true
+is-working k x right free = zero-works (worldIn x) k (numbered k x right ∙ free)
 
 -- what the work of a call asks
 pub accepts : (k : Call) (x : Arrays) → RamLengths x → length (x .log) ≡ logLength → numberIn x k ≡ 0
@@ -174,9 +167,8 @@ module _ (k : Call) (typed : Typed k) (x : Arrays) (right : rightLengths (worldI
     accepted-call = record {
       does = subst (CallPost k (worldIn x)) (sym (left ∙ is-performed)) (performed-post (worldIn x) k typed);
       keeps = neither;
-      shut = λ p. clash _ (is-open k x free) p;
-      beyond = λ p l. absurd (is-within k x free l);
-      cut = λ o l p. zeroed r head visits scopes tail copy log charts
+      shut = λ p. clash _ (is-working k x right free) p;
+      cut = λ o p. zeroed r head visits scopes tail copy log charts
           (A .zero (refusal-case (r .answer) (λ z. let five = sym p ∙ ap (λ (b : Answer). b .number) says ∙ z in omega arith))) written;
       done = λ z. open-after n leaves left ∙ ap (λ (m : ℕ). eqb m 0) z;
       sized = long;
@@ -194,8 +186,7 @@ read-call k typed x right free r A n says same long =
       does = subst (CallPost k (worldIn x)) (sym (left ∙ is-performed k typed x right free r (x .visits) (x .scopes) (x .tail) (x .copy) (x .log) (x .charts) A)) (performed-post (worldIn x) k typed);
       keeps = λ p q. refl;
       shut = λ p. refl;
-      beyond = λ p l. absurd (is-within k x free l);
-      cut = λ o l p. clash _ o (after ∙ ap (λ (m : ℕ). eqb m 0) p);
+      cut = λ o p. clash _ (is-open k x free) (after ∙ ap (λ (m : ℕ). eqb m 0) p);
       done = λ z. after ∙ ap (λ (m : ℕ). eqb m 0) z;
       sized = long;
     }

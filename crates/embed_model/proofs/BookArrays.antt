@@ -1,21 +1,19 @@
 -- Arrays of C for what a sound book comes to (`worldOf` of crate `state`), number by number.
-use Prim.Native.Nat.{ℕ, suc, _+_, _≤_}
+use Prim.Native.Nat.{ℕ, suc, _≤_}
 use native.Mathlib.Omega.{arith}
-use mathlib.Core.Path.{_≡_, refl, ap, _∙_}
-use mathlib.Core.Bool.{Bool, true, false, cond}
+use mathlib.Core.Path.{_≡_, refl}
+use mathlib.Core.Bool.{Bool, true, false}
 use mathlib.Core.List.{List, [], _∷_, map}
-use lib.ListN.{length, length-append, replicate}
+use lib.ListN.{length, replicate}
 use lib.IntN.{ℤ}
-use borrow.Author.Tests.{le-leb}
 use Rattle.book.specs.Lists.{padTo}
-use Rattle.book.specs.Limits.{chartsLength, rowLimit, tailLimit, activeLimit, scopeLimit}
+use Rattle.book.specs.Limits.{chartsLength}
 use Rattle.book.specs.Power.{Book, Fuse, none, left, rowsOf, ledgerOf}
 use Rattle.book.specs.LogBytes.{rowsBytes, logBytes}
 use Rattle.book.specs.Pages.{chartBytes, pageAfter}
 use Rattle.book.specs.Logs.{Sound}
-use Rattle.book.proofs.Lists.{clash, and-i}
+use Rattle.book.proofs.Lists.{clash}
 use Rattle.book.proofs.Logs.{allowed-rest}
-use Rattle.book.proofs.InvariantKept.{few-rows}
 use Rattle.book.proofs.LogBytes.{rows-long}
 use Rattle.book.proofs.Pages.{chart-long}
 use Rattle.book.proofs.Sound.{sound-inv, stored-allowed}
@@ -24,10 +22,11 @@ use Rattle.tables_model.specs.Layout.{flatLength, visitsLength}
 use Rattle.tables_model.specs.Meaning.{scopeOf, tablesOf, scopeTable}
 use Rattle.tables_model.proofs.WithinLimits.{in-range}
 use Rattle.state.specs.declared.ram.Phase.the-variants.{Open}
-use Rattle.state.specs.World.{World, world, inLimits, fuseOf, closedState, openState, stateOf, tableOf, copyOf, worldOf, tailLength}
+use Rattle.state.specs.World.{world, fuseOf, stateOf, tableOf, copyOf, worldOf, tailLength}
 use Rattle.state.proofs.Lengths.{padded-length}
 use Rattle.journal.specs.declared.Control.{Control}
 use Rattle.journal.specs.Outcomes.{stateAfter}
+use Rattle.state.proofs.Works.{sound-rows}
 use Rattle.embed_model.specs.Arrays.{Arrays, arrays, headLength, worldIn, RamLengths, Zero}
 use Rattle.embed_model.specs.Head.{headOf}
 use Rattle.embed_model.specs.EveryList.{Below, ArraysOfC, FuseOfC}
@@ -43,10 +42,6 @@ pub record Encoded (cells : ℕ → ℤ) (b : Book) (charts : List ℕ) : Type 0
   pub long : RamLengths arrays
   pub typed : ArraysOfC arrays
   pub zero : b .isOpen ≡ false → Zero arrays
-
--- 01: log and tail have at most 4,096 rows
-sound-rows : (b : Book) → Sound b → length (b .stored) + length (b .waiting) ≤ rowLimit
-sound-rows b s = let k = few-rows (rowsOf b) (s .allowed) in let m = length-append (b .stored) (b .waiting) in omega arith
 
 -- ── An open book ──────────────────────────────────────────────────────────────────────────────────────────────────────
 
@@ -167,21 +162,3 @@ encoded cells b charts s f c = go (b .isOpen) refl
       typed = zero-typed (zeros (logBytes (b .stored)) charts) (zeros-zero (logBytes (b .stored)) charts) (below-log (b .stored) (stored-allowed b s)) c;
       zero = λ e. zeros-zero (logBytes (b .stored)) charts;
     }
-
--- ── 01's limits ───────────────────────────────────────────────────────────────────────────────────────────────────────
-
-state-in-limits : (b : Book) → Sound b → inLimits (stateOf b) ≡ true
-unfolding stateOf
-state-in-limits b s = go (b .isOpen)
-  where
-    go : (t : Bool) → inLimits (cond t (openState b) closedState) ≡ true
-    go true =
-        let t = in-range (rowsOf b) (s .allowed) in
-        and-i _ _ (and-i _ _ (and-i _ _ (le-leb _ tailLimit (s .tail)) (le-leb _ rowLimit (sound-rows b s))) (le-leb _ activeLimit (t .count)))
-        (le-leb _ scopeLimit (t .used))
-    go false = refl
-
--- the counters of a sound book are within them
-pub sound-limits : (cells : ℕ → ℤ) (b : Book) (charts : List ℕ) (x : Arrays) → Sound b → worldIn x ≡ worldOf cells b charts → inLimits (worldIn x .state) ≡ true
-unfolding worldOf
-sound-limits cells b charts x s e = ap (λ (w : World). inLimits (w .state)) e ∙ state-in-limits b s

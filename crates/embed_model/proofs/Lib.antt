@@ -1,6 +1,5 @@
 pub mod Arrays
 pub mod Refused
-pub mod Fives
 pub mod Freedom
 pub mod Demand
 pub mod Below
@@ -10,6 +9,5 @@ pub mod BookArrays
 pub mod FuseFalls
 pub mod Packed
 pub mod BookAnswers
-pub mod Decisions
 pub mod StepsMade
 pub mod EveryList

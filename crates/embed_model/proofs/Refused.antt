@@ -7,7 +7,6 @@ use mathlib.Core.List.{List}
 use lib.IntN.{ℤ, pos}
 use Rattle.book.specs.Calls.{Call}
 use Rattle.book.specs.Book.{Answer, answer}
-use Rattle.book.proofs.Lists.{clash}
 use Rattle.state.specs.World.{rightLengths, fuseOfNumber}
 use Rattle.state.specs.Contracts.{formats, CallPost}
 use Rattle.state.proofs.OpenedStores.{opens-refused}
@@ -42,8 +41,7 @@ module _ (x : Arrays) (long : RamLengths x) (r : ℕ) (one : answerIn r ≡ answ
     does = subst (λ (a : Answer). CallPost k (worldIn x) (record { answer = a; world = worldIn x })) (sym one) (met-lengths k (worldIn x) wrong);
     keeps = λ n m. refl;
     shut = λ e. refl;
-    beyond = λ right. clash _ right wrong;
-    cut = λ o l e. let n = is-one in absurd (omega arith);
+    cut = λ o e. let n = is-one in absurd (omega arith);
     done = λ z. let n = is-one in absurd (omega arith);
     sized = long;
   }

@@ -20,7 +20,7 @@ use Rattle.book.proofs.Lists.{clash}
 use Rattle.book.proofs.Pages.{Bounded}
 use Rattle.book.proofs.Sound.{sound-call, sound-opening, stored-allowed}
 use Rattle.book.proofs.Claims.{grows-open}
-use Rattle.state.specs.World.{World, rightLengths, isOpenPhase, inLimits, fuseOfNumber, worldOf, Charts, Represents}
+use Rattle.state.specs.World.{World, rightLengths, isOpenPhase, works, fuseOfNumber, worldOf, Charts, Represents}
 use Rattle.state.specs.Contracts.{opens as opensWorld, OpenPost, chartsAfter, byBook, CallPost}
 use Rattle.state.proofs.Lengths.{represented-lengths}
 use Rattle.state.proofs.StoredCharts.{charts-kept, charts-call}
@@ -37,9 +37,10 @@ use Rattle.embed_model.specs.Freedom.{AnyLengthsOfC}
 use Rattle.embed_model.specs.EveryList.{Below, ArraysOfC, FuseOfC, CallOfC, StepOfC, EventOfC}
 use Rattle.embed_model.proofs.Freedom.{any-lengths-of-c}
 use Rattle.embed_model.proofs.Refused.{open-refused, call-refused}
-use Rattle.embed_model.proofs.Decisions.{Ends, ends, ends-only, ends-open, ends-closed, Decides, shut, refuses, accepts, decides, refused-keeps}
+use Rattle.state.proofs.Works.{works-open}
+use Rattle.state.proofs.Decisions.{Ends, ends, ends-only, ends-open, ends-closed, Decides, shut, refuses, accepts, decides, refused-keeps}
 use Rattle.embed_model.proofs.Below.{below-charts}
-use Rattle.embed_model.proofs.BookArrays.{Encoded, encoded, sound-limits}
+use Rattle.embed_model.proofs.BookArrays.{Encoded, encoded}
 use Rattle.embed_model.proofs.FuseFalls.{fuse-kept}
 use Rattle.embed_model.proofs.Packed.{PackedInto, packed, fuseNumber, fuse-back, fuse-small}
 use Rattle.embed_model.proofs.BookAnswers.{call-fits, opening-fits}
@@ -140,9 +141,9 @@ module _ (cells : ℕ → ℤ) (small : Bounded 1000000 cells) (b : Book) (own :
   sound : Sound b
   sound = h .held .sound
 
-  is-open : isOpenPhase (worldIn own .state .phase) ≡ b .isOpen
+  works-as : works (worldIn own .state) ≡ b .isOpen
   unfolding worldOf
-  is-open = ap (λ (w : World). isOpenPhase (w .state .phase)) (stands .is) ∙ phase-open b
+  works-as = ap (λ (w : World). works (w .state)) (stands .is) ∙ works-open b sound
 
   lends-own : LendsLog own (own .log) true
   lends-own = record { may = inl refl; right = right; long = h .long; typed = h .typed }
@@ -202,9 +203,6 @@ module _ (cells : ℕ → ℤ) (small : Bounded 1000000 cells) (b : Book) (own :
     unfolding byBook
     number-of = packed (r .answer) (call-fits cells small b k sound (typed-call k t) (met cells b k (worldIn own) stands .table))
 
-    not-beyond : {X : Type 0} → inLimits (worldIn own .state) ≡ false → X
-    not-beyond l = clash (inLimits (worldIn own .state)) (sound-limits cells b (worldIn own .charts) own sound (stands .is)) l
-
     -- the book refuses it: the arrays are as they were
     call-keeps : (n : ℕ) → r ≡ refused (suc n) b → (b .isOpen ≡ true → suc n ≢ 5) → CallsOfC k own (number-of .number) own
     call-keeps n e open-other =
@@ -216,8 +214,7 @@ module _ (cells : ℕ → ℤ) (small : Bounded 1000000 cells) (b : Book) (own :
           does = subst (CallPost k (worldIn own)) same (met cells b k (worldIn own) stands);
           keeps = λ p q. refl;
           shut = λ p. refl;
-          beyond = λ p l. not-beyond l;
-          cut = λ o l p. absurd (open-other (sym is-open ∙ o) (sym number ∙ p));
+          cut = λ o p. absurd (open-other (sym works-as ∙ o) (sym number ∙ p));
           done = λ z. absurd (omega arith);
           sized = h .long;
         }
@@ -240,9 +237,8 @@ module _ (cells : ℕ → ℤ) (small : Bounded 1000000 cells) (b : Book) (own :
         record {
           does = subst (CallPost k (worldIn own)) packs (met cells b k (worldIn own) stands);
           keeps = λ z f. absurd (ends-only r e (λ q. z (number ∙ q)) (λ q. f (number ∙ q)));
-          shut = λ p. clash _ (is-open ∙ o) p;
-          beyond = λ p l. not-beyond l;
-          cut = λ p l f. call-arrays .zero (ends-closed r e (λ z. omega arith));
+          shut = λ p. clash _ (works-as ∙ o) p;
+          cut = λ p f. call-arrays .zero (ends-closed r e (λ z. omega arith));
           done = λ z. ap (λ (w : World). isOpenPhase (w .state .phase)) (call-arrays .is) ∙ phase-open (r .book) ∙ ends-open r e (sym number ∙ z);
           sized = call-arrays .long;
         }

@@ -1,14 +1,14 @@
 -- The contracts of the functions for C, over the arrays lent to a call, the number it gives back and the arrays it leaves. Of the worlds that the arrays
 -- are, each is the relation of the store's own call (crate `state`); beyond that it says of every number of RAM what a refusal and a power failure leave.
 use Prim.Native.Nat.{ℕ}
-use mathlib.Core.Bool.{Bool, true, false, _&&_}
+use mathlib.Core.Bool.{true, false}
 use mathlib.Core.Path.{_≡_}
 use mathlib.Core.Logic.{_≢_}
 use mathlib.Core.List.{List}
-use lib.IntN.{ℤ, pos}
+use lib.IntN.{ℤ}
 use Rattle.book.specs.Calls.{Call}
 use Rattle.book.specs.Book.{answer}
-use Rattle.state.specs.World.{rightLengths, isOpenPhase, inLimits, fuseOfNumber}
+use Rattle.state.specs.World.{isOpenPhase, works, fuseOfNumber}
 use Rattle.state.specs.Contracts.{Answered, FormatPost, OpenPost, CallPost}
 use Rattle.embed_model.specs.Arrays.{Arrays, worldIn, RamLengths, Zero}
 use Rattle.embed_model.specs.Packed.{answerIn}
@@ -40,20 +40,10 @@ pub record CallsOfC (k : Call) (given : Arrays) (r : ℕ) (leaves : Arrays) : Ty
   pub does : CallPost k (worldIn given) (answeredIn r leaves)
   -- a refusal changes nothing
   pub keeps : answerIn r .number ≢ 0 → answerIn r .number ≢ 5 → leaves ≡ given
-  -- nor does any call of a closed store
-  pub shut : isOpenPhase (worldIn given .state .phase) ≡ false → leaves ≡ given
-  -- the counters are beyond their limits: refused by 5, and nothing changes
-  pub beyond : rightLengths (worldIn given) ≡ true → inLimits (worldIn given .state) ≡ false → (answerIn r ≡ answer 5 (pos 0)) × (leaves ≡ given)
-  -- an open store within them that answers 5: the power failed
-  pub cut : isOpenPhase (worldIn given .state .phase) ≡ true → inLimits (worldIn given .state) ≡ true → answerIn r .number ≡ 5 → Zero leaves
+  -- nor does any call of a store that is closed, or whose counters are beyond their limits; `does` says that it answers 5
+  pub shut : works (worldIn given .state) ≡ false → leaves ≡ given
+  -- a 5 of any other store is a power failure
+  pub cut : works (worldIn given .state) ≡ true → answerIn r .number ≡ 5 → Zero leaves
   -- a call that is done leaves the store open
   pub done : answerIn r .number ≡ 0 → isOpenPhase (worldIn leaves .state .phase) ≡ true
   pub sized : RamLengths leaves
-
--- so what a 5 leaves is settled by what was lent, whatever that is: zeros where the store is open and its counters are within their limits, and else all as
--- it was
-unfoldable pub FiveLeaves : Type 0
-FiveLeaves =
-    (k : Call) (given : Arrays) (r : ℕ) (leaves : Arrays) → CallsOfC k given r leaves → answerIn r .number ≡ 5 →
-    let works : Bool = isOpenPhase (worldIn given .state .phase) && inLimits (worldIn given .state) in
-    (works ≡ true → Zero leaves) × (works ≡ false → leaves ≡ given)

@@ -3,12 +3,13 @@ use Prim.Native.Nat.{ℕ}
 use native.Mathlib.Omega.{arith}
 use mathlib.Core.Bool.{Bool, true, false, cond, not, _&&_}
 use mathlib.Core.Logic.{_⊎_, inl, inr, ⊎-elim}
-use mathlib.Core.Path.{_≡_, refl, sym, _∙_, subst}
+use mathlib.Core.Path.{_≡_, refl, ap, sym, _∙_, subst}
 use mathlib.Core.List.{List}
 use lib.ListN.{length}
 use lib.IntN.{ℤ, pos}
 use lib.Dec.{eqb, ltb}
 use borrow.Author.Tests.{eqb-true}
+use Rattle.book.specs.Calls.{Call}
 use Rattle.book.specs.Limits.{cellLimit, logLength, pageLimit}
 use Rattle.book.specs.Power.{Book, Fuse}
 use Rattle.book.specs.Book.{ended, reopened, reopen}
@@ -16,8 +17,8 @@ use Rattle.book.specs.LogBytes.{Log, good, bad, readLog}
 use Rattle.book.specs.Opening.{Opened, rejected, recovered, badPage, checked, openBytes}
 use Rattle.book.specs.Reading.{ReadsExactly, Demand2Reading}
 use Rattle.book.proofs.Reading.{demand-2-reading}
-use Rattle.state.specs.World.{World, rightLengths, stateOf, tableOf, cleared}
-use Rattle.state.specs.Contracts.{Answered, answered, badCell, formats, openedWorld, FormatPost, OpenPost}
+use Rattle.state.specs.World.{World, rightLengths, works, stateOf, tableOf, cleared}
+use Rattle.state.specs.Contracts.{Answered, answered, badCell, formats, openedWorld, FormatPost, OpenPost, CallPost}
 use Rattle.state.proofs.OpenedStores.{opens-bytes, opens-refused}
 use Rattle.sessions.specs.Demand1.{FormatAnswers, OpenAnswers, Demand1}
 use Rattle.sessions.proofs.LentBuffers.{right}
@@ -95,9 +96,23 @@ module _ (f : Fuse) (given : World) where
         failed = λ z. absurd (omega arith);
       })
 
+-- a 5 has buffers of 01's lengths: others are refused by 1
+five-shut : (k : Call) (given : World) (x : Answered) → CallPost k given x → x .answer .number ≡ 5 → works (given .state) ≡ false
+    → x ≡ answered 5 (pos 0) given
+five-shut k given x post five idle = go (rightLengths given) refl
+  where
+    go : (t : Bool) → rightLengths given ≡ t → x ≡ answered 5 (pos 0) given
+    go true e = post .shut e idle
+    go false e = let one = ap (λ (y : Answered). y .answer .number) (post .lengths e) in absurd (omega arith)
+
 pub demand-1 : Demand1
 demand-1 = record {
   formats = format-answers;
   opens = open-answers;
-  calls = λ k given x post. record { number = post .table; refused = post .keeps; failed = post .cut };
+  calls = λ k given x post. record {
+    number = post .table;
+    refused = post .keeps;
+    shut = five-shut k given x post;
+    failed = λ five t. post .cut t five;
+  };
 }

@@ -2,7 +2,7 @@
 -- runs on, and a refusal changes no byte, except that a power failure or a rejected store leaves what 01 says." Whatever state, buffers and arguments a
 -- call is handed. (That none traps or runs on is proved of every function, whatever its contract says.)
 use Prim.Native.Nat.{ℕ}
-use mathlib.Core.Bool.{true}
+use mathlib.Core.Bool.{true, false}
 use mathlib.Core.Path.{_≡_}
 use mathlib.Core.Logic.{_≢_, _⊎_}
 use mathlib.Core.List.{List, [], _∷_}
@@ -10,7 +10,7 @@ use lib.IntN.{ℤ, pos}
 use Rattle.book.specs.Lists.{member}
 use Rattle.book.specs.Calls.{Call}
 use Rattle.book.specs.Power.{Fuse}
-use Rattle.state.specs.World.{World, cleared}
+use Rattle.state.specs.World.{World, works, cleared}
 use Rattle.state.specs.Contracts.{Answered, answered, numbers, FormatPost, OpenPost, CallPost}
 
 -- 01, "Refusals by place": the numbers of format and of open; `numbers` has those of the other calls
@@ -43,8 +43,10 @@ pub record CallAnswers (k : Call) (given : World) (x : Answered) : Type 0 where
   pub number : member (x .answer .number) (numbers k) ≡ true
   -- a refusal changes no byte
   pub refused : x .answer .number ≢ 0 → x .answer .number ≢ 5 → x ≡ answered (x .answer .number) (pos 0) given
-  -- the store was closed, or its counters (of the host's making) were beyond their limits, and it is as it was; or the power failed: 01, "Power"
-  pub failed : x .answer .number ≡ 5 → (x ≡ answered 5 (pos 0) given) ⊎ (x ≡ answered 5 (pos 0) (cleared (x .world .log) (given .charts)))
+  -- 5: the store was closed, or its counters (of the host's making) were beyond their limits, and it is as it was
+  pub shut : x .answer .number ≡ 5 → works (given .state) ≡ false → x ≡ answered 5 (pos 0) given
+  -- or else the power failed, which leaves what 01 says under Power
+  pub failed : x .answer .number ≡ 5 → works (given .state) ≡ true → x ≡ answered 5 (pos 0) (cleared (x .world .log) (given .charts))
 
 -- format, open and the eight calls of an open store, whatever functions meet the contracts
 pub record Demand1 : Type 0 where

@@ -8,6 +8,9 @@ pub mod Kept
 pub mod Ready
 pub mod SameBook
 pub mod Agree
+pub mod OwnNumbers
+pub mod Works
+pub mod Decisions
 pub mod Satisfiable
 pub mod Rounds
 pub mod Numbers

@@ -2,7 +2,7 @@
 use Prim.Native.Nat.{ℕ, _+_, _*_}
 use mathlib.Core.Bool.{true, false, cond, not, _&&_}
 use mathlib.Core.Path.{_≡_}
-use mathlib.Core.Logic.{_≢_, _⊎_}
+use mathlib.Core.Logic.{_≢_}
 use mathlib.Core.List.{List, [], _∷_, _++_}
 use lib.ListN.{length, getD, take, drop}
 use lib.IntN.{ℤ, pos}
@@ -19,7 +19,7 @@ use Rattle.book.specs.Opening.{Opened, openBytes}
 use Rattle.tables_model.specs.declared.Scope.{Scope}
 use Rattle.state.specs.declared.answers.Result.{Result}
 use Rattle.state.specs.Answers.{numberAndValue}
-use Rattle.state.specs.World.{World, world, rightLengths, isOpenPhase, stateOf, tableOf, cleared, worldOf, Represents}
+use Rattle.state.specs.World.{World, world, rightLengths, works, stateOf, tableOf, cleared, worldOf, Represents}
 
 -- what a call gives back and leaves
 pub record Answered : Type 0 where
@@ -101,16 +101,20 @@ byBook cells b k w =
     let o : Outcome = call cells b true k in
     record { answer = o .answer; world = worldOf cells (o .book) (chartsAfter cells b (ending k) (o .answer .number) (w .charts)) }
 
--- 01: the numbers that a call may answer with, whatever it is handed
+-- 01, "Refusals by place": the numbers of the call's own row
+abbrev pub ownNumbers : Call → List ℕ
+ownNumbers Call.begin = 6 ∷ 7 ∷ 8 ∷ []
+ownNumbers (Call.change v c a) = 9 ∷ 10 ∷ 11 ∷ 8 ∷ []
+ownNumbers (Call.handOver g r c) = 9 ∷ 12 ∷ 10 ∷ 13 ∷ 8 ∷ []
+ownNumbers (Call.commit v) = 9 ∷ []
+ownNumbers (Call.abort v) = 9 ∷ []
+ownNumbers Call.force = []
+ownNumbers (Call.flush p) = 14 ∷ []
+ownNumbers (Call.read c) = 10 ∷ []
+
+-- the numbers that a call may answer with, whatever it is handed: done, 1 and 5 as every call of an open store, and those of its own row
 abbrev pub numbers : Call → List ℕ
-numbers Call.begin = 0 ∷ 1 ∷ 5 ∷ 6 ∷ 7 ∷ 8 ∷ []
-numbers (Call.change v c a) = 0 ∷ 1 ∷ 5 ∷ 9 ∷ 10 ∷ 11 ∷ 8 ∷ []
-numbers (Call.handOver g r c) = 0 ∷ 1 ∷ 5 ∷ 9 ∷ 12 ∷ 10 ∷ 13 ∷ 8 ∷ []
-numbers (Call.commit v) = 0 ∷ 1 ∷ 5 ∷ 9 ∷ []
-numbers (Call.abort v) = 0 ∷ 1 ∷ 5 ∷ 9 ∷ []
-numbers Call.force = 0 ∷ 1 ∷ 5 ∷ []
-numbers (Call.flush p) = 0 ∷ 1 ∷ 5 ∷ 14 ∷ []
-numbers (Call.read c) = 0 ∷ 1 ∷ 5 ∷ 10 ∷ []
+numbers k = 0 ∷ 1 ∷ 5 ∷ ownNumbers k
 
 -- what each of the other calls promises
 pub record CallPost (k : Call) (given : World) (x : Answered) : Type 0 where
@@ -118,12 +122,11 @@ pub record CallPost (k : Call) (given : World) (x : Answered) : Type 0 where
   pub table : member (x .answer .number) (numbers k) ≡ true
   -- a lent buffer has another length: refused by 1, and nothing changes
   pub lengths : rightLengths given ≡ false → x ≡ answered 1 (pos 0) given
-  -- the store is closed: refused by 5, and nothing changes
-  pub shut : rightLengths given ≡ true → isOpenPhase (given .state .phase) ≡ false → x ≡ answered 5 (pos 0) given
+  -- the store is closed, or its counters (of the host's making) are beyond their limits: refused by 5, and nothing changes
+  pub shut : rightLengths given ≡ true → works (given .state) ≡ false → x ≡ answered 5 (pos 0) given
   -- 00, demand 1: a refusal changes no byte, whatever the call was handed
   pub keeps : x .answer .number ≢ 0 → x .answer .number ≢ 5 → x ≡ answered (x .answer .number) (pos 0) given
-  -- 01, "Power": the store was closed, or its counters (of the host's making) were beyond their limits, and it is as it was; or the power failed, which
-  -- leaves the charts, and copy, tail and scopes cleared
-  pub cut : x .answer .number ≡ 5 → (x ≡ answered 5 (pos 0) given) ⊎ (x ≡ answered 5 (pos 0) (cleared (x .world .log) (given .charts)))
+  -- 01, "Power": a 5 of a store that calls work on is a power failure, which leaves the charts, and copy, tail and scopes cleared
+  pub cut : works (given .state) ≡ true → x .answer .number ≡ 5 → x ≡ answered 5 (pos 0) (cleared (x .world .log) (given .charts))
   -- what stands for a book becomes what stands for the book after the call
   pub is : rightLengths given ≡ true → (cells : ℕ → ℤ) (b : Book) → Represents cells b given → x ≡ byBook cells b k given

@@ -55,6 +55,10 @@ abbrev pub inLimits : State → Bool
 inLimits s =
     leb (s .waiting) tailLimit && leb (s .stored + s .waiting) rowLimit && leb (s .tables .count) activeLimit && leb (s .tables .used) scopeLimit
 
+-- a call works on it: the store is open, and the counters are within their limits
+abbrev pub works : State → Bool
+works s = isOpenPhase (s .phase) && inLimits s
+
 -- ── What a book comes to ──────────────────────────────────────────────────────────────────────────────────────────────
 
 -- 01: a fuse, none or the number of stored writes that still land

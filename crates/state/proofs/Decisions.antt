@@ -7,11 +7,12 @@ use mathlib.Core.Logic.{_≢_}
 use lib.IntN.{ℤ, pos}
 use Rattle.book.specs.Calls.{Call, ending}
 use Rattle.book.specs.Power.{Book}
+use Rattle.book.proofs.Lists.{clash}
 use Rattle.book.specs.Book.{answer, refusal, through, value, Outcome, refused, ended, accepted, decide, call}
 use Rattle.state.specs.World.{World, worldOf, Represents}
 use Rattle.state.specs.Contracts.{answered, chartsAfter, byBook}
 use Rattle.state.proofs.Agree.{charts-refused}
-use Rattle.embed_model.proofs.Fives.{refusal-not-five}
+use Rattle.state.proofs.OwnNumbers.{own-not-five, refusal-own}
 
 -- done with the book open after it, or cut with the book closed
 pub data Ends (o : Outcome) : Type 0 where
@@ -46,12 +47,22 @@ pub data Decides (b : Book) (o : Outcome) : Type 0 where
 
 pub decides : (cells : ℕ → ℤ) (b : Book) (k : Call) → Decides b (call cells b true k)
 unfolding call accepted
-decides cells b k = go (b .isOpen) refl (refusal b k) (refusal-not-five b k)
+decides cells b k = go (b .isOpen) refl (refusal b k) (own-not-five k (refusal b k) (refusal-own b k))
   where
     go : (t : Bool) → b .isOpen ≡ t → (n : ℕ) → n ≢ 5 → Decides b (decide cells b k (cond (not t) 5 n))
     go false o n h = shut o refl
     go true o zero h = accepts o (ends (value cells b k) (through b k))
     go true o (suc n) h = refuses n o h refl
+
+-- an open book refuses by other numbers than 5
+pub refused-other : (cells : ℕ → ℤ) (b : Book) (k : Call) (n : ℕ) → call cells b true k ≡ refused (suc n) b → b .isOpen ≡ true → suc n ≢ 5
+refused-other cells b k n e running = go (decides cells b k)
+  where
+    go : Decides b (call cells b true k) → suc n ≢ 5
+    go (shut o q) = clash _ running o
+    go (refuses m o other q) = λ z. other (ap (λ (x : Outcome). x .answer .number) (sym q ∙ e) ∙ z)
+    go (accepts o (done z p)) = let m = ap (λ (x : Outcome). x .answer .number) e in λ q. absurd (omega arith)
+    go (accepts o (cut z p)) = clash _ (ap (λ (x : Outcome). x .book .isOpen) e ∙ running) p
 
 -- a call that the book refuses leaves the values as they were
 pub refused-keeps : (cells : ℕ → ℤ) (b : Book) (k : Call) (w : World) (n : ℕ) → Represents cells b w → call cells b true k ≡ refused (suc n) b
