@@ -10,7 +10,6 @@ ghost use Rattle.book.specs.Calls.{Call};
 ghost use Rattle.tables_model.specs.Layout.{flatLength, visitsLength};
 ghost use Rattle.state.specs.Answers.{row, numberAndValue, caseOf};
 ghost use Rattle.book.specs.Book.{done};
-ghost use Rattle.state.specs.Requests.{callOf};
 ghost use Rattle.state.specs.World.{tailLength};
 ghost use Rattle.calls_model.specs.Acts.{core, Accepts};
 ghost use Rattle.calls_model.specs.Perform.{Accepted, Held, Failed};
@@ -30,7 +29,6 @@ use rows::Lsn;
 use rows::Visit;
 use state::answers::Answer;
 use state::ram::Phase;
-use state::requests::Request;
 use tables_model::Counts;
 use wal::clear::clear_ram;
 
@@ -238,44 +236,5 @@ pub fn accept_read(
         answer: Answer::Grams(read_cell(copy, k)),
         control: c,
         counts: t,
-    }
-}
-
-// An accepted request.
-pub fn accept(
-    c: Control,
-    t: Counts,
-    visits: &mut [u16],
-    log: &mut [u8],
-    charts: &mut [u8],
-    copy: &mut [u8],
-    tail: &mut [u8],
-    scopes: &mut [u16],
-    request: Request,
-) -> Outcome
-    requires { ⌜ Accepts c t (length (now log)) (length (now copy)) (length (now tail)) (now visits) (now scopes) (callOf request) × (length (now charts) ≡ chartsLength) ⌝ }
-    ensures { λ r. ⌜ Accepted (core c t (now (visits .entry)) (now (log .entry)) (now (charts .entry)) (now (copy .entry)) (now (tail .entry)) (now (scopes .entry))) (callOf request) r
-        (now (log .exit)) (now (charts .exit)) (now (copy .exit)) (now (tail .exit)) (now (visits .exit)) (now (scopes .exit)) ⌝ }
-{
-    match request {
-        Request::Begin => accept_begin(c, t, visits, log, copy, tail, scopes),
-        Request::Change(v, k, z) => accept_change(c, t, visits, log, copy, tail, scopes, v, k, z),
-        Request::HandOver(g, v, k) => accept_hand_over(
-            c,
-            t,
-            visits,
-            log,
-            copy,
-            tail,
-            scopes,
-            g,
-            v,
-            k,
-        ),
-        Request::Commit(v) => accept_commit(c, t, visits, log, copy, tail, scopes, v),
-        Request::Abort(v) => accept_abort(c, t, visits, log, copy, tail, scopes, v),
-        Request::Force => accept_force(c, t, visits, log, copy, tail, scopes),
-        Request::Flush(p) => accept_flush(c, t, visits, log, charts, copy, tail, scopes, p),
-        Request::Read(k) => accept_read(c, t, visits, log, copy, tail, scopes, k),
     }
 }

@@ -37,7 +37,7 @@ use Rattle.cores.proofs.outs.table_of.Met as table-of-met
 use Rattle.cores.proofs.outs.table_of.Symbol as table-of-def
 use Rattle.tables_model.specs.declared.Scope.{Scope}
 use Rattle.store.proofs.Elem.{R, Tb, tvals, t-made}
-use Rattle.store.proofs.Locals.{Y, O, sv}
+use Rattle.store.proofs.Locals.{O, sv}
 use Rattle.store.proofs.Pairing.{OutOf, sixty-four}
 use Rattle.store.proofs.Plain.{Of}
 use Rattle.store.proofs.table.load as load

@@ -1,9 +1,9 @@
--- `calls::accept::accept` meets its contract. Assumes nothing.
+-- `cores::accept::accept` meets its contract. Assumes nothing.
 use mir.Syntax.{w16}
 use mir.Facts.{toZ-ofZ}
 use borrow.Author.Needs.{needs}
-use Rattle.calls.proofs.accept.accept.Statement.{statement}
-use Rattle.calls.proofs.accept.accept.Tie as tie
+use Rattle.cores.proofs.accept.accept.Statement.{statement}
+use Rattle.cores.proofs.accept.accept.Tie as tie
 
 accept-begin-requires : tie.Need-accept-begin-requires
 accept-begin-requires c κs = rw (c .before .before .before .before .before .enum-told .given .1) at (c .before .before .before .before .before .before .before .before .before .before .before .before .before .pre .0)
