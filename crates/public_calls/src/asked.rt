@@ -1,4 +1,5 @@
 // What is asked for, in numbers. A number that is not taken is not looked at.
+use crate::ram::fuse_by;
 use rows::Cell;
 use rows::Visit;
 use state::ram::Fuse;
@@ -8,14 +9,6 @@ pub(crate) enum Asked {
     Format,
     Open(Fuse),
     Call(Request),
-}
-
-fn fuse_by(limited: u8, writes: u32) -> Fuse {
-    if limited == 0 {
-        Fuse::Unlimited
-    } else {
-        Fuse::Left(writes)
-    }
 }
 
 // The calls have the codes of run files, a format has 0, and every further code is an opening. A flush has its page where others have the cell.
@@ -38,6 +31,6 @@ pub(crate) fn asked_by(
         6 => Asked::Call(Request::Flush(cell)),
         7 => Asked::Call(Request::Force),
         8 => Asked::Call(Request::Read(Cell(cell))),
-        _ => Asked::Open(fuse_by(limited, writes)),
+        _ => Asked::Open(fuse_by(limited as u64, writes as u64)),
     }
 }

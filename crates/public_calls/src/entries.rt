@@ -3,9 +3,14 @@ use rows::Cell;
 use rows::Lsn;
 use rows::Visit;
 use rows::numbers::low;
+use tables::layout::CELL;
+use tables::layout::COUNT;
+use tables::layout::FIRST;
+use tables::layout::HANDED;
+use tables::layout::HOLDER;
+use tables::layout::LAST;
+use tables::layout::MAKER;
 use tables_model::Scope;
-
-pub(crate) const ENTRY_WIDTH: usize = 7;
 
 fn number_at(f: &[u16], at: usize, k: usize) -> u16 {
     if at < f.len() {
@@ -18,13 +23,13 @@ fn number_at(f: &[u16], at: usize, k: usize) -> u16 {
 
 pub(crate) fn scope_at(f: &[u16], at: usize) -> Scope {
     Scope {
-        maker: Visit(number_at(f, at, 0)),
-        holder: Visit(number_at(f, at, 1)),
-        cell: Cell(low(number_at(f, at, 2))),
-        first: Lsn(number_at(f, at, 3)),
-        last: Lsn(number_at(f, at, 4)),
-        handed: number_at(f, at, 5) != 0,
-        count: number_at(f, at, 6),
+        maker: Visit(number_at(f, at, MAKER)),
+        holder: Visit(number_at(f, at, HOLDER)),
+        cell: Cell(low(number_at(f, at, CELL))),
+        first: Lsn(number_at(f, at, FIRST)),
+        last: Lsn(number_at(f, at, LAST)),
+        handed: number_at(f, at, HANDED) != 0,
+        count: number_at(f, at, COUNT),
     }
 }
 
@@ -41,11 +46,11 @@ fn flag_of(b: bool) -> u16 {
 }
 
 pub(crate) fn put_scope(f: &mut [u16], at: usize, s: Scope) {
-    put_number(f, at, 0, s.maker.0);
-    put_number(f, at, 1, s.holder.0);
-    put_number(f, at, 2, s.cell.0 as u16);
-    put_number(f, at, 3, s.first.0);
-    put_number(f, at, 4, s.last.0);
-    put_number(f, at, 5, flag_of(s.handed));
-    put_number(f, at, 6, s.count);
+    put_number(f, at, MAKER, s.maker.0);
+    put_number(f, at, HOLDER, s.holder.0);
+    put_number(f, at, CELL, s.cell.0 as u16);
+    put_number(f, at, FIRST, s.first.0);
+    put_number(f, at, LAST, s.last.0);
+    put_number(f, at, HANDED, flag_of(s.handed));
+    put_number(f, at, COUNT, s.count);
 }

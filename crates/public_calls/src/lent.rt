@@ -6,7 +6,6 @@ ghost use Rattle.state.specs.Contracts.{returned};
 ghost use Rattle.state.specs.Functions.{Formats, Opens, Calls};
 ghost use Rattle.state.specs.World.{world};
 use crate::asked::Asked;
-use crate::entries::ENTRY_WIDTH;
 use crate::entries::put_scope;
 use crate::entries::scope_at;
 use state::answers::Result;
@@ -14,6 +13,7 @@ use state::ram::Fuse;
 use state::ram::State;
 use state::requests::Request;
 use store::public;
+use tables::layout::ENTRY_WIDTH;
 use tables::scopes::unused;
 use tables_model::Scope;
 

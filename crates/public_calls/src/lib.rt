@@ -2,7 +2,7 @@
 // lent to the public function as a `&mut [Scope]`, and both are written back.
 mod asked; // what is asked for, in numbers
 mod entries; // a scope table in numbers
-pub mod lent; // the public calls with a table of as many entries as there are numbers for
+mod lent; // the public calls with a table of as many entries as there are numbers for
 mod packed; // the answer in one number
 mod ram; // the state in numbers
 

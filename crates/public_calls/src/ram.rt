@@ -15,7 +15,7 @@ fn phase_by(x: u64) -> Phase {
     if x == 0 { Phase::Closed } else { Phase::Open }
 }
 
-fn fuse_by(kind: u64, left: u64) -> Fuse {
+pub(crate) fn fuse_by(kind: u64, left: u64) -> Fuse {
     if kind == 0 {
         Fuse::Unlimited
     } else {

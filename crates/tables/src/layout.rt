@@ -12,20 +12,20 @@ pub(crate) const BEARS: usize = 1;
 pub const VISITS_LENGTH: usize = ACTIVE_LIMIT * PLACE_WIDTH;
 
 // An entry of the scope table.
-pub(crate) const ENTRY_WIDTH: usize = 7;
+pub const ENTRY_WIDTH: usize = 7;
 
-pub(crate) const MAKER: usize = 0;
+pub const MAKER: usize = 0;
 
-pub(crate) const HOLDER: usize = 1;
+pub const HOLDER: usize = 1;
 
-pub(crate) const CELL: usize = 2;
+pub const CELL: usize = 2;
 
-pub(crate) const FIRST: usize = 3;
+pub const FIRST: usize = 3;
 
-pub(crate) const LAST: usize = 4;
+pub const LAST: usize = 4;
 
-pub(crate) const HANDED: usize = 5;
+pub const HANDED: usize = 5;
 
-pub(crate) const COUNT: usize = 6;
+pub const COUNT: usize = 6;
 
 pub const FLAT_LENGTH: usize = SCOPE_LIMIT * ENTRY_WIDTH;
