@@ -63,7 +63,7 @@ extern "C" {
 #endif
 
 /* Of this header. The archive does not know it: link the two from one version. */
-#define CHART_VERSION 1
+#define CHART_VERSION 2
 
 /* ---- Limits ---- */
 
@@ -109,11 +109,18 @@ typedef struct chart_store {
 
 /* ---- Answers ---- */
 
-/* What a call answers: bits 32 to 39 have the refusal number, 0 for done; bits 0 to 31 the value, signed. */
+/* What a call answers: bits 0 to 31 have the value, signed; bits 32 to 39 the refusal number, 0 for done; bits 40 to 55 the rows that the call stored, and
+ * bits 56 to 63 the pages.
+ *
+ * The two counts say which calls wear the memory: each row and each page is one stored write. A row counts for the call that stores it, whichever call added
+ * it: an opening, a commit, a force, a flush, or a call that adds a row while CHART_ROWS_WAITING rows wait (an abort may do so several times). A format counts
+ * none, and so does a refused call, but for one in which the power fails: it counts what landed before. */
 typedef uint64_t chart_answer;
 
 static inline int chart_number(chart_answer a) { return (int)((a >> 32) & 255u); }
 static inline int32_t chart_value(chart_answer a) { return (int32_t)(uint32_t)(a & 4294967295u); }
+static inline unsigned chart_rows(chart_answer a) { return (unsigned)((a >> 40) & 65535u); }
+static inline unsigned chart_pages(chart_answer a) { return (unsigned)((a >> 56) & 255u); }
 
 /* The refusal numbers. Where no value is named it is 0. */
 enum {

@@ -6,7 +6,8 @@
 //!     bench --check            every workload once, nothing measured
 //!     bench --once WORKLOAD    one workload, nothing measured: what callgrind is given
 //!
-//! A difference in any answer or stored byte ends the program with exit status 1.
+//! A difference in any answer, with its counts of stored writes, or in any stored byte ends the program with
+//! exit status 1.
 
 mod instructions;
 mod ram;

@@ -3,7 +3,7 @@
 use crate::stores::{Call, Charts, Efficient};
 use crate::workloads::{Script, WORKLOADS};
 use compare::proved::Proved;
-use compare::store::Answer;
+use compare::store::{Answer, Writes};
 
 /// Runs the workload by both stores. The two functions make the calls of a measured batch and add their
 /// answers. Any difference between the stores is an error, and so is a refusal that the workload does not
@@ -48,7 +48,8 @@ fn run<S: Charts>(
 ) -> Outcome {
     let mut store = S::new();
     // Written to before, so that no measured call waits for the system to give memory.
-    let mut answers = vec![Answer { number: 1, value: 1 }; script.calls()];
+    let any = Answer { number: 1, value: 1, writes: Writes { rows: 1, pages: 1 } };
+    let mut answers = vec![any; script.calls()];
     answers.clear();
     for batch in &script.batches {
         if batch.measured {

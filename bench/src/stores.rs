@@ -2,7 +2,7 @@
 
 use compare::fast::{self, Fuse, Lent, Ram};
 use compare::proved::Proved;
-use compare::store::{Answer, Scope, CELLS, RIGHT};
+use compare::store::{Answer, Scope, Writes, CELLS, RIGHT};
 
 /// A call of a store, or a byte that the host writes to its memory.
 #[derive(Clone, Copy, Debug)]
@@ -67,7 +67,7 @@ impl Efficient {
     #[inline(always)]
     fn lent(&mut self) -> (&mut Ram, Lent<'_>) {
         let Efficient { ram, log, charts, copy, scopes } = self;
-        (ram, Lent { log, charts, copy, scopes })
+        (ram, Lent::new(log, charts, copy, scopes))
     }
 
     #[inline(never)]
@@ -180,5 +180,5 @@ charts!(Efficient, "counted_efficient");
 
 fn written(bytes: &mut [u8], at: u16, byte: u8) -> Answer {
     bytes[usize::from(at)] = byte;
-    Answer { number: 0, value: 0 }
+    Answer { number: 0, value: 0, writes: Writes::NONE }
 }

@@ -1,7 +1,7 @@
 //! The two implementations as `Store`s.
 
 use crate::fast::{self, Fuse, Lent, Phase, Ram};
-use crate::paper::{self, Ledger, Paper, Row};
+use crate::paper::{Ledger, Paper, Row};
 use crate::prng::Rng;
 use crate::store::{noise, take_over, with_length};
 use crate::store::{Answer, Buffer, Call, Host, Scope, State, Store, RIGHT, ROW, ROWS};
@@ -38,13 +38,13 @@ impl Store for Paper {
     fn format(&mut self, cells: &[i32]) -> Answer {
         let outcome = Paper::format(self, cells);
         self.lent = RIGHT;
-        paper::answer(outcome)
+        self.answer(outcome)
     }
 
     fn open(&mut self, fuse: Option<u32>) -> Answer {
         let outcome = Paper::open(self, fuse);
         self.lent = RIGHT;
-        paper::answer(outcome)
+        self.answer(outcome)
     }
 
     fn call(&mut self, call: Call) -> Answer {
@@ -59,7 +59,7 @@ impl Store for Paper {
             Call::Read { cell } => self.read(cell),
         };
         self.lent = RIGHT;
-        paper::answer(outcome)
+        self.answer(outcome)
     }
 
     fn log(&self) -> &[u8] {
@@ -146,7 +146,7 @@ impl FastStore {
         let (ram, table) = (&mut self.ram, &mut self.scopes);
         self.host.lend(|log, charts, copy, entries| {
             let mut scopes = with_length(table, entries);
-            let answer = call(ram, &mut Lent { log, charts, copy, scopes: &mut scopes });
+            let answer = call(ram, &mut Lent::new(log, charts, copy, &mut scopes));
             take_over(table, &scopes);
             answer
         })

@@ -2,6 +2,7 @@
 //! copies, scopes and states are compared with the paper's.
 
 mod careless;
+mod endings;
 mod memory;
 mod power;
 
@@ -13,8 +14,9 @@ use crate::observe::{self, Moment};
 use crate::paper::{Ledger, Paper};
 use crate::report;
 use crate::steps::{place, Step};
-use crate::store::{Answer, Call, Lengths, Scope, Store, RIGHT};
+use crate::store::{Answer, Call, Lengths, Scope, Store, Writes, RIGHT};
 use memory::{Leaves, Memory};
+use power::Session;
 use std::cell::Cell;
 use std::panic::{self, catch_unwind, AssertUnwindSafe};
 
@@ -38,6 +40,8 @@ pub struct Arena<'a> {
     sound: bool,
     /// Set for a formatted store whose memory nobody else writes.
     demands: Option<Demands>,
+    /// The session that runs, while the host keeps to 01.
+    session: Option<Session>,
     lent: Lengths,
     moment: Moment,
     steps: Vec<Step>,
@@ -46,7 +50,7 @@ pub struct Arena<'a> {
 }
 
 /// The answer of a step that calls nothing, or of a call that is left out.
-const NO_CALL: Answer = Answer { number: 0, value: 0 };
+const NO_CALL: Answer = Answer { number: 0, value: 0, writes: Writes::NONE };
 
 impl<'a> Arena<'a> {
     pub fn new(makers: &[Maker], cover: &'a mut Cover) -> Arena<'a> {
@@ -59,6 +63,7 @@ impl<'a> Arena<'a> {
             others,
             sound: true,
             demands: Some(Demands::new(&[0; 224])),
+            session: None,
             lent: RIGHT,
             moment: Moment::default(),
             steps: Vec::new(),
@@ -100,13 +105,23 @@ impl<'a> Arena<'a> {
         Ok(())
     }
 
-    /// Takes the step and expects this answer.
+    /// Takes the step and expects this number and value.
     pub fn expect(&mut self, step: Step, number: u8, value: i64) -> Outcome<()> {
-        let expected = Answer { number, value };
         let answer = self.step(step)?;
+        if (answer.number, answer.value) != (number, value) {
+            let answer = report::answer(answer);
+            return self
+                .differs(format!("document 01 has {number} {value}, the stores answer {answer}"));
+        }
+        Ok(())
+    }
+
+    /// Takes the step and expects this answer, as a run file's line has it: number, value, rows, pages.
+    pub fn expect_line(&mut self, step: Step, expected: &str) -> Outcome<()> {
+        let answer = report::answer(self.step(step)?);
         if answer != expected {
-            let (expected, answer) = (report::answer(expected), report::answer(answer));
-            return self.differs(format!("document 01 has {expected}, the stores answer {answer}"));
+            return self
+                .differs(format!("documents 01 and 02 have {expected}, the stores answer {answer}"));
         }
         Ok(())
     }
@@ -125,7 +140,7 @@ impl<'a> Arena<'a> {
                 Ok(NO_CALL)
             }
             Step::Scramble(seed) => {
-                self.sound = false;
+                self.host_alters();
                 self.for_all(|store| store.scramble(seed));
                 Ok(NO_CALL)
             }
@@ -163,8 +178,14 @@ impl<'a> Arena<'a> {
         }
     }
 
-    fn host_writes(&mut self, write: impl Fn(&mut dyn Store)) {
+    /// The host does not keep to 01: what follows is no part of the session.
+    fn host_alters(&mut self) {
         self.sound = false;
+        self.session = None;
+    }
+
+    fn host_writes(&mut self, write: impl Fn(&mut dyn Store)) {
+        self.host_alters();
         self.demands = None;
         self.for_all(write);
     }
@@ -179,8 +200,11 @@ impl<'a> Arena<'a> {
         if answer.number == 0 {
             self.sound = true;
             self.demands = Some(Demands::new(cells));
+            self.session = None;
         }
         self.after()?;
+        // "A format's are zero."
+        self.powered(power::counted(answer.writes, 0, 0))?;
         Ok(answer)
     }
 
@@ -196,13 +220,14 @@ impl<'a> Arena<'a> {
         let answer = self.compared(|store| store.open(fuse), leaves)?;
         self.sound |= answer.number != 1;
         let before = self.after()?;
+        self.powered(power::counted(answer.writes, self.moment.stored - stored, 0))?;
         if let 1 | 3 | 4 = answer.number {
             let holding = conditions::of_opening(lent, &self.paper.log, &self.paper.charts, fuse);
             self.first_condition("open", &holding, answer)?;
         } else {
-            let rows = self.moment.stored - stored;
-            self.powered(power::judge(fuse, rows, answer.number, self.paper.fuse))?;
+            self.powered(power::judge(fuse, answer, self.paper.fuse))?;
         }
+        self.session_at(fuse, stored, before.open, answer)?;
         let opening = Opening {
             lent,
             sound,
@@ -239,11 +264,13 @@ impl<'a> Arena<'a> {
         let before = self.after()?;
         let holding = conditions::of_call(call, lent, &before, &self.paper.log);
         self.first_condition(place(call), &holding, answer)?;
-        if let (true, 0 | 5) = (was_open, answer.number) {
-            let pages = usize::from(matches!(call, Call::FlushPage { .. }) && answer.number == 0);
-            let writes = self.moment.stored - before.stored + pages;
-            self.powered(power::judge(before.fuse, writes, answer.number, self.paper.fuse))?;
+        let page = matches!(call, Call::FlushPage { .. }) && answer.number == 0;
+        let rows = self.moment.stored - before.stored;
+        self.powered(power::counted(answer.writes, rows, usize::from(page)))?;
+        if was_open {
+            self.powered(power::judge(before.fuse, answer, self.paper.fuse))?;
         }
+        self.add_to_session(answer)?;
         observe::call(self.cover, call, lent, answer, &before, &self.moment);
         if let (Call::Commit { visit }, 0, Some(demands)) = (call, answer.number, &mut self.demands) {
             let held = before.ledger.changes.iter().filter(|change| change.holder == visit);
@@ -272,7 +299,37 @@ impl<'a> Arena<'a> {
     }
 
     fn powered(&self, power: Result<(), String>) -> Outcome<()> {
-        power.or_else(|text| self.differs(format!("power: {text}")))
+        power.or_else(|text| self.differs(format!("stored writes: {text}")))
+    }
+
+    /// An opening that found so many rows has answered: another session begins, or the last one goes on.
+    /// `open` says whether the store was open before it.
+    fn session_at(
+        &mut self,
+        fuse: Option<u32>,
+        stored: usize,
+        open: bool,
+        answer: Answer,
+    ) -> Outcome<()> {
+        if answer.number == 1 {
+            self.session.iter_mut().for_each(Session::resume);
+        } else if let Some(session) = self.session.take() {
+            session.end(self.cover, open);
+        }
+        if let 0 | 5 = answer.number {
+            self.session = Some(Session::new(fuse, stored));
+        }
+        self.add_to_session(answer)
+    }
+
+    /// An opening or a call of the session that runs has answered.
+    fn add_to_session(&mut self, answer: Answer) -> Outcome<()> {
+        let Some(session) = &mut self.session else {
+            return Ok(());
+        };
+        session.add(answer.writes);
+        let summed = session.judge(self.moment.stored, self.paper.open, self.paper.fuse);
+        self.powered(summed)
     }
 
     /// After a format, an opening or a call: the rest of the comparison, and a new look at the paper's

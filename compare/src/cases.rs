@@ -1,6 +1,7 @@
 //! The cases of the comparison, in parts. Every part makes its cases from a number, the seed, so that
 //! each of them can be made again.
 
+pub mod counts;
 pub mod crowded;
 pub mod cuts;
 pub mod damage;
@@ -31,7 +32,7 @@ pub struct Part {
 pub const PARTS: [Part; 15] = [
     Part {
         name: "document",
-        about: "the cases of document 01, with their answers",
+        about: "the cases of documents 01 and 02, with their answers",
         seeds: [document::COUNT; 2],
         play: document::play,
     },

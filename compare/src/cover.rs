@@ -64,9 +64,11 @@ impl Cover {
     }
 
     /// How a call of a store ended whose RAM or buffers the host had altered.
-    pub fn altered(&mut self, store: &'static str, label: &'static str) {
-        debug_assert!(ALTERED.iter().any(|floor| floor.0 == label), "{label}");
-        self.meet(ALTERED_TITLE, store, label.into(), 1);
+    pub fn altered_if(&mut self, condition: bool, store: &'static str, label: &'static str) {
+        if condition {
+            debug_assert!(ALTERED.iter().any(|floor| floor.0 == label), "{label}");
+            self.meet(ALTERED_TITLE, store, label.into(), 1);
+        }
     }
 
     /// The greatest number met under this name.

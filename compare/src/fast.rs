@@ -2,7 +2,8 @@
 //!
 //! A table of scopes follows the rows, so that no call but an opening goes through the whole log. All
 //! calls work in place and use no heap. They end for every state, table and buffer contents that a
-//! host may pass: counters that do not fit together answer 5.
+//! host may pass: counters that do not fit together answer 5. Each answer counts the rows and pages that
+//! its call has stored.
 
 mod charts;
 mod journal;
@@ -10,7 +11,7 @@ mod recovery;
 mod rows;
 mod tables;
 
-use crate::store::{Answer, Scope, CELLS, RIGHT};
+use crate::store::{Answer, Scope, Writes, CELLS, RIGHT};
 use charts::{bad_page, get_cell, redo, set_cell, PAGES};
 use journal::{append, force_all, lose_ram, store_page, Stopped};
 use recovery::{check_log, roll_back};
@@ -64,15 +65,27 @@ impl Ram {
     }
 }
 
-/// The buffers that a host lends to each call.
+/// The buffers that a host lends to a call, and the stored writes that the call has landed there.
 pub struct Lent<'a> {
-    pub log: &'a mut [u8],
-    pub charts: &'a mut [u8],
-    pub copy: &'a mut [u8],
-    pub scopes: &'a mut [Scope],
+    log: &'a mut [u8],
+    charts: &'a mut [u8],
+    copy: &'a mut [u8],
+    scopes: &'a mut [Scope],
+    landed: Writes,
 }
 
-impl Lent<'_> {
+impl<'a> Lent<'a> {
+    /// The buffers for one call.
+    #[inline(always)]
+    pub fn new(
+        log: &'a mut [u8],
+        charts: &'a mut [u8],
+        copy: &'a mut [u8],
+        scopes: &'a mut [Scope],
+    ) -> Lent<'a> {
+        Lent { log, charts, copy, scopes, landed: Writes::NONE }
+    }
+
     fn has_right_lengths(&self) -> bool {
         self.log.len() == RIGHT.log
             && self.charts.len() == RIGHT.charts
@@ -81,25 +94,29 @@ impl Lent<'_> {
     }
 }
 
+/// Done by a call that has stored nothing.
 fn done(value: i64) -> Answer {
-    Answer { number: 0, value }
+    Answer { number: 0, value, writes: Writes::NONE }
 }
 
 fn refused(number: u8) -> Answer {
-    Answer { number, value: 0 }
+    refused_at(number, 0)
 }
 
 fn refused_at(number: u8, place: usize) -> Answer {
-    Answer { number, value: place as i64 }
+    Answer { number, value: place as i64, writes: Writes::NONE }
 }
 
-/// The answer of a call that passed its checks.
+/// The answer of a call that passed its checks, with the writes that it has landed: all that it makes, or
+/// those before power failed.
+#[inline]
 fn finish(ram: &mut Ram, lent: &mut Lent, result: Result<u16, Stopped>) -> Answer {
+    let writes = lent.landed;
     match result {
-        Ok(value) => done(i64::from(value)),
+        Ok(value) => Answer { writes, ..done(i64::from(value)) },
         Err(Stopped) => {
             lose_ram(ram, lent);
-            refused(5)
+            Answer { writes, ..refused(5) }
         }
     }
 }
@@ -146,11 +163,14 @@ pub fn open(ram: &mut Ram, lent: &mut Lent, fuse: Fuse) -> Answer {
     finish(ram, lent, result)
 }
 
+/// The number of a refusal that every call but format and open can give.
+struct Refused(u8);
+
 /// The checks that every call but format and open makes first; gives the rows that are free beyond
 /// the reserve. A state whose counters do not fit together is answered like a closed one.
-fn room(ram: &Ram, lent: &Lent) -> Result<usize, Answer> {
+fn room(ram: &Ram, lent: &Lent) -> Result<usize, Refused> {
     if !lent.has_right_lengths() {
-        return Err(refused(1));
+        return Err(Refused(1));
     }
     let within_bounds = ram.phase == Phase::Open
         && usize::from(ram.waiting) <= TAIL_ROWS
@@ -158,16 +178,16 @@ fn room(ram: &Ram, lent: &Lent) -> Result<usize, Answer> {
         && usize::from(ram.tables.scope_count) <= MOST_SCOPES
         && ram.tables.begun <= MOST_VISITS;
     if !within_bounds {
-        return Err(refused(5));
+        return Err(Refused(5));
     }
     let needed = ram.rows() + ram.tables.reserve(lent.scopes);
-    ROWS.checked_sub(needed).ok_or(refused(5))
+    ROWS.checked_sub(needed).ok_or(Refused(5))
 }
 
 pub fn begin(ram: &mut Ram, lent: &mut Lent) -> Answer {
     let room = match room(ram, lent) {
         Ok(room) => room,
-        Err(answer) => return answer,
+        Err(Refused(number)) => return refused(number),
     };
     if ram.tables.begun == MOST_VISITS {
         return refused(6);
@@ -187,7 +207,7 @@ pub fn begin(ram: &mut Ram, lent: &mut Lent) -> Answer {
 pub fn change(ram: &mut Ram, lent: &mut Lent, visit: u16, cell: u8, amount: i16) -> Answer {
     let room = match room(ram, lent) {
         Ok(room) => room,
-        Err(answer) => return answer,
+        Err(Refused(number)) => return refused(number),
     };
     if !ram.tables.is_active(visit) {
         return refused(9);
@@ -210,7 +230,7 @@ pub fn change(ram: &mut Ram, lent: &mut Lent, visit: u16, cell: u8, amount: i16)
 pub fn hand_over(ram: &mut Ram, lent: &mut Lent, giver: u16, receiver: u16, cell: u8) -> Answer {
     let room = match room(ram, lent) {
         Ok(room) => room,
-        Err(answer) => return answer,
+        Err(Refused(number)) => return refused(number),
     };
     if !ram.tables.is_active(giver) || !ram.tables.is_active(receiver) {
         return refused(9);
@@ -233,23 +253,23 @@ pub fn hand_over(ram: &mut Ram, lent: &mut Lent, giver: u16, receiver: u16, cell
 }
 
 pub fn commit(ram: &mut Ram, lent: &mut Lent, visit: u16) -> Answer {
-    if let Err(answer) = room(ram, lent) {
-        return answer;
+    if let Err(Refused(number)) = room(ram, lent) {
+        return refused(number);
     }
     if !ram.tables.is_active(visit) {
         return refused(9);
     }
     let row = Row { kind: COMMIT, visit, ..Row::default() };
     let result = append(ram, lent, row).and_then(|number| {
-        force_all(ram, lent.log)?;
+        force_all(ram, lent)?;
         Ok(number)
     });
     finish(ram, lent, result)
 }
 
 pub fn abort(ram: &mut Ram, lent: &mut Lent, visit: u16) -> Answer {
-    if let Err(answer) = room(ram, lent) {
-        return answer;
+    if let Err(Refused(number)) = room(ram, lent) {
+        return refused(number);
     }
     if !ram.tables.is_active(visit) {
         return refused(9);
@@ -272,16 +292,16 @@ fn take_back(ram: &mut Ram, lent: &mut Lent, visit: u16) -> Result<u16, Stopped>
 }
 
 pub fn force(ram: &mut Ram, lent: &mut Lent) -> Answer {
-    if let Err(answer) = room(ram, lent) {
-        return answer;
+    if let Err(Refused(number)) = room(ram, lent) {
+        return refused(number);
     }
-    let result = force_all(ram, lent.log).map(|()| 0);
+    let result = force_all(ram, lent).map(|()| 0);
     finish(ram, lent, result)
 }
 
 pub fn flush_page(ram: &mut Ram, lent: &mut Lent, page: u8) -> Answer {
-    if let Err(answer) = room(ram, lent) {
-        return answer;
+    if let Err(Refused(number)) = room(ram, lent) {
+        return refused(number);
     }
     if usize::from(page) >= PAGES {
         return refused(14);
@@ -291,8 +311,8 @@ pub fn flush_page(ram: &mut Ram, lent: &mut Lent, page: u8) -> Answer {
 }
 
 pub fn read(ram: &Ram, lent: &Lent, cell: u8) -> Answer {
-    if let Err(answer) = room(ram, lent) {
-        return answer;
+    if let Err(Refused(number)) = room(ram, lent) {
+        return refused(number);
     }
     if usize::from(cell) >= CELLS {
         return refused(10);

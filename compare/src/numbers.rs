@@ -2,16 +2,18 @@
 //! scope table, each entry of seven, and the tail.
 
 use crate::prng::Rng;
-use crate::store::{Answer, Scope, State, MOST_ACTIVE};
+use crate::store::{Answer, Scope, State, Writes, MOST_ACTIVE};
 
 /// Numbers of an entry of the scope table.
 pub const ENTRY: usize = 7;
 /// Numbers of a place of the active visits.
 pub const PLACE: usize = 2;
 
-/// Number and value of an answer.
+/// An answer in one number: the value in bits 0 to 31, the refusal number in bits 32 to 39, the rows that
+/// the call stored in bits 40 to 55, the pages in bits 56 to 63.
 pub fn unpacked(answer: u64) -> Answer {
-    Answer { number: (answer >> 32) as u8, value: i64::from(answer as u32 as i32) }
+    let writes = Writes { rows: (answer >> 40) as u16, pages: (answer >> 56) as u8 };
+    Answer { number: (answer >> 32) as u8, value: i64::from(answer as u32 as i32), writes }
 }
 
 pub fn scopes(numbers: &[u16]) -> Vec<Scope> {

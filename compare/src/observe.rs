@@ -1,8 +1,8 @@
 //! Finds out what a step has met. It looks at the paper's store before and after the step.
 
 pub mod conditions;
-mod cuts;
 pub mod openings;
+mod writes;
 
 use crate::cover::Cover;
 use crate::paper::{self, Ledger, Row, UNDO};
@@ -78,13 +78,14 @@ pub fn call(
         }
     }
     if answer.number == 5 && before.open {
-        cuts::call(cover, call, before, after.stored);
+        writes::cut_call(cover, call, before, answer.writes);
     }
     if answer.number == 0 {
         cover.shape_if(before.fuse == Some(0), "call done with the fuse used up");
         let last_write = before.fuse != Some(0) && after.fuse == Some(0);
         cover.shape_if(last_write, "call done with the last write of its fuse");
         done(cover, call, before, after);
+        writes::done_call(cover, call, before, answer.writes);
         store(cover, after);
     }
 }
@@ -94,8 +95,6 @@ fn done(cover: &mut Cover, call: Call, before: &Moment, after: &Moment) {
     let ledger = &before.ledger;
     let mut changes = ledger.changes.iter();
     let new = &after.ledger.rows[ledger.rows.len()..];
-    let full_tail = !new.is_empty() && before.waiting == 64;
-    cover.writes_if(full_tail, place(call), "full tail stored first");
     let leaves_free = |rows| ledger.free() == ledger.reserve() + rows;
     match call {
         Call::Begin => {

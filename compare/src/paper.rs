@@ -4,9 +4,10 @@
 //! with their refusals. Each part quotes the words that it renders. Between two calls nothing is kept
 //! but what 01 keeps: stored log, stored charts, copy, tail, fuse, and whether the store is open.
 //! Active visits, holders, open changes, reserve, free rows and scopes are worked out from the list
-//! of rows anew in every call; there is no scope table and no counter.
+//! of rows anew in every call; there is no scope table, and the one counter is that of the stored
+//! writes of the call that runs, which its answer takes with it ("02", request L1).
 
-use crate::store::{Answer, Lengths, Scope, CELLS, RIGHT};
+use crate::store::{Answer, Lengths, Scope, Writes, CELLS, RIGHT};
 
 // ---------------------------------------------------------------------------------- the store
 
@@ -436,14 +437,6 @@ fn refuse_if(condition: bool, number: u8) -> Result<(), Refusal> {
 /// The value of a call that is done, or its refusal.
 type Outcome = Result<i64, Refusal>;
 
-/// The answer of a call: number 0 and its value, or the refusal.
-pub fn answer(outcome: Outcome) -> Answer {
-    match outcome {
-        Ok(value) => Answer { number: 0, value },
-        Err(Refusal { number, value }) => Answer { number, value },
-    }
-}
-
 /// "Stored charts", "stored log" and "in RAM: a copy of the charts, a tail of at most 64 rows not yet
 /// stored", with the fuse of the opening and whether the store is open.
 #[derive(Clone)]
@@ -457,6 +450,8 @@ pub struct Paper {
     pub open: bool,
     /// The lengths of the buffers that the host lends to the next call.
     pub lent: Lengths,
+    /// The stored writes that the call which runs has landed; none between two calls.
+    landed: Writes,
 }
 
 impl Paper {
@@ -469,7 +464,19 @@ impl Paper {
             fuse: None,
             open: false,
             lent: RIGHT,
+            landed: Writes::NONE,
         }
+    }
+
+    /// The answer of a call: number 0 and its value, or the refusal; and its stored writes.
+    /// 02, L1: "Every result, refusals included, carries the stored writes that this call landed, rows
+    /// and pages as two counts."
+    pub fn answer(&mut self, outcome: Outcome) -> Answer {
+        let (number, value) = match outcome {
+            Ok(value) => (0, value),
+            Err(Refusal { number, value }) => (number, value),
+        };
+        Answer { number, value, writes: std::mem::take(&mut self.landed) }
     }
 
     /// "Copy and tail become zero and empty, every scope entry becomes unused (all fields zero), and
@@ -549,6 +556,7 @@ impl Paper {
             let row = self.tail.remove(0);
             let at = self.stored_rows() * ROW_BYTES;
             self.log[at..at + ROW_BYTES].copy_from_slice(&row.bytes());
+            self.landed.rows += 1;
         }
         Ok(())
     }
@@ -574,6 +582,7 @@ impl Paper {
     /// "Format takes 224 cells, marks 0, blank log. Power is held during it. Copy, tail and scopes
     /// end as after a power failure, and the store is closed."
     /// "format | 2: a cell beyond ±1,000,000; gives the first such cell"
+    /// 02, L1: "A format's are zero." What it writes are no rows and no pages that count.
     pub fn format(&mut self, cells: &[i32]) -> Outcome {
         self.check_lengths()?;
         refuse_if(cells.len() != CELLS, 1)?;
@@ -715,6 +724,7 @@ impl Paper {
         self.spend_write()?;
         let bytes = page * PAGE_BYTES..(page + 1) * PAGE_BYTES;
         self.charts[bytes.clone()].copy_from_slice(&self.copy[bytes]);
+        self.landed.pages += 1;
         Ok(0)
     }
 

@@ -4,7 +4,7 @@
 
 use crate::numbers::{self, unpacked, Garbage, ENTRY, PLACE};
 use crate::store::{noise, with_length};
-use crate::store::{Answer, Buffer, Call, Lengths, Scope, State, Store, RIGHT};
+use crate::store::{Answer, Buffer, Call, Lengths, Scope, State, Store, Writes, RIGHT};
 
 /// Entries of the greatest scope table that can be lent.
 const MOST_ENTRIES: usize = 128;
@@ -14,6 +14,7 @@ extern "C" {
         head: *mut u64,
         visits: *mut u16,
         tail: *mut u8,
+        counts: *mut u64,
         scopes: *mut u16,
         scopes_length: u64,
         copy: *mut u8,
@@ -84,11 +85,13 @@ struct Handed {
 impl Handed {
     fn ask(&mut self, asked: Asked, cells: &[i32]) -> Answer {
         let Asked { code, visit, receiver, cell, amount, limited, writes } = asked;
-        unpacked(unsafe {
+        let mut counts = [0; 2];
+        let packed = unsafe {
             public_call_on(
                 self.head.as_mut_ptr(),
                 self.visits.as_mut_ptr(),
                 self.tail.as_mut_ptr(),
+                counts.as_mut_ptr(),
                 self.scopes.as_mut_ptr(),
                 self.scopes.len() as u64,
                 self.copy.as_mut_ptr(),
@@ -107,7 +110,12 @@ impl Handed {
                 limited,
                 writes,
             )
-        })
+        };
+        let [rows, pages] = counts;
+        // A count that is too great for its type is equal to none of the paper's.
+        let rows = u16::try_from(rows).unwrap_or(u16::MAX);
+        let pages = u8::try_from(pages).unwrap_or(u8::MAX);
+        Answer { writes: Writes { rows, pages }, ..unpacked(packed) }
     }
 
     /// The same with buffers of these lengths.

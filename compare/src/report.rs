@@ -3,7 +3,7 @@
 use crate::arena::Difference;
 use crate::paper::{Row, ABORT, BEGIN, CHANGE, COMMIT, HAND_OVER, UNDO};
 use crate::steps::{place, Step};
-use crate::store::{Answer, Call, Scope, State};
+use crate::store::{Answer, Call, Scope, State, Writes};
 
 /// The steps of a case, the last of which shows the difference.
 pub fn case(steps: &[Step], difference: &Difference) -> String {
@@ -34,9 +34,10 @@ fn grouped(lines: &[String]) -> Vec<(String, &str)> {
     groups
 }
 
-/// An answer as the run file's lines have it.
+/// An answer as the run file's lines have it: number, value, rows, pages.
 pub fn answer(answer: Answer) -> String {
-    format!("{} {}", answer.number, answer.value)
+    let Answer { number, value, writes: Writes { rows, pages } } = answer;
+    format!("{number} {value} {rows} {pages}")
 }
 
 pub fn byte(byte: Option<&u8>) -> String {

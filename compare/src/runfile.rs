@@ -4,7 +4,7 @@
 //! body (2, the file's first byte being 0), calls (2). Then the bodies, without gaps, in order, to
 //! the end. A call is 6 bytes: code, visit, receiver, cell or page, change (2)."
 
-use crate::store::{Answer, Call, Store, CELLS};
+use crate::store::{Answer, Call, Store, Writes, CELLS};
 
 pub const MOST_BYTES: usize = 4_096;
 const ENTRY_BYTES: usize = 8;
@@ -99,7 +99,8 @@ pub fn write(sessions: &[Session]) -> Vec<u8> {
 }
 
 /// "Formats zeros and reads standard input." The output lines: "session, call (0 is the opening),
-/// refusal number or 0, value"; or "the line `15` alone".
+/// refusal number or 0, value"; or "the line `15` alone". 02, L1: "The run file's lines get both counts at
+/// the end": rows, then pages.
 pub fn run(file: &[u8], store: &mut dyn Store) -> String {
     let Some(sessions) = parse(file) else {
         return "15\n".to_string();
@@ -107,7 +108,8 @@ pub fn run(file: &[u8], store: &mut dyn Store) -> String {
     store.format(&[0; CELLS]);
     let mut lines = String::new();
     let mut print = |session: usize, call: usize, answer: Answer| {
-        lines += &format!("{session} {call} {} {}\n", answer.number, answer.value);
+        let Answer { number, value, writes: Writes { rows, pages } } = answer;
+        lines += &format!("{session} {call} {number} {value} {rows} {pages}\n");
     };
     for (session, Session { fuse, calls }) in sessions.iter().enumerate() {
         print(session + 1, 0, store.open(*fuse));

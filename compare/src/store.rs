@@ -25,8 +25,9 @@ impl Default for Lengths {
 
 /// Cells that a format takes.
 pub const CELLS: usize = 224;
-/// Bytes of a row.
+/// Bytes of a row, and of a page.
 pub const ROW: usize = 16;
+pub const PAGE: usize = 32;
 /// Rows that the log has, that the tail has, visits that are active at a time, all at most.
 pub const ROWS: usize = 4_096;
 pub const TAIL_ROWS: usize = 64;
@@ -73,11 +74,28 @@ pub enum Call {
     Read { cell: u8 },
 }
 
-/// Refusal number, 0 for none, and the value that belongs to it.
+/// Refusal number, 0 for none, the value that belongs to it, and the stored writes that the call landed.
 #[derive(Clone, Copy, PartialEq, Eq, Debug)]
 pub struct Answer {
     pub number: u8,
     pub value: i64,
+    pub writes: Writes,
+}
+
+/// Stored writes that landed: rows of the log, and pages of the charts.
+#[derive(Clone, Copy, PartialEq, Eq, Debug, Default)]
+pub struct Writes {
+    pub rows: u16,
+    pub pages: u8,
+}
+
+impl Writes {
+    pub const NONE: Writes = Writes { rows: 0, pages: 0 };
+
+    /// How many they are: each row and each page is one write.
+    pub fn count(self) -> u32 {
+        u32::from(self.rows) + u32::from(self.pages)
+    }
 }
 
 /// An entry of the scope table. An unused entry has all fields zero.

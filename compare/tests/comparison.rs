@@ -8,7 +8,7 @@ use compare::cover::Cover;
 use compare::paper::{Ledger, Row, ABORT, BEGIN, CHANGE, COMMIT, HAND_OVER, UNDO};
 use compare::shrink::shrink;
 use compare::steps::{begin, change, open, read, Step};
-use compare::store::{Answer, Buffer, Call, Scope, State, Store};
+use compare::store::{Answer, Buffer, Call, Scope, State, Store, Writes};
 use std::time::Duration;
 
 /// What is wrong with a store.
@@ -24,6 +24,14 @@ enum Fault {
     Refusal,
     /// It answers 5 in RAM that no calls leave, with power to go on: the first active visit is 0.
     Altered,
+    /// It counts the row of a begin, which waits.
+    Waiting,
+    /// It counts the page of a flush in which power fails.
+    Page,
+    /// It counts nothing in a call in which power fails.
+    Cut,
+    /// It counts a row too many in RAM that no calls leave: the first active visit is 0.
+    AlteredCount,
 }
 
 /// A store with a fault.
@@ -54,11 +62,16 @@ impl Store for Wrong {
     }
     fn call(&mut self, call: Call) -> Answer {
         let state = self.state();
-        if self.fault == Fault::Altered && self.is_ready() && state.active > 0 && state.visits[0] == 0 {
-            return Answer { number: 5, value: 0 };
+        let altered = self.is_ready() && state.active > 0 && state.visits[0] == 0;
+        if self.fault == Fault::Altered && altered {
+            return Answer { number: 5, value: 0, writes: Writes::NONE };
         }
         let mut answer = self.store.call(call);
         match (self.fault, call, answer.number) {
+            (Fault::Waiting, Call::Begin, 0) => answer.writes.rows += 1,
+            (Fault::Page, Call::FlushPage { .. }, 5) if state.open => answer.writes.pages += 1,
+            (Fault::Cut, _, 5) => answer.writes = Writes::NONE,
+            (Fault::AlteredCount, _, 0 | 5) if altered => answer.writes.rows += 1,
             (Fault::Read, Call::Read { .. }, 0) if answer.value != 0 => answer.value += 1,
             (Fault::Ram, _, 5) if state.open => self.byte = 1,
             (Fault::Refusal, _, 9) => self.byte = self.byte.wrapping_add(1),
@@ -144,6 +157,18 @@ fn faults_in_ram_are_found() {
 fn a_5_with_power_to_go_on_is_found_in_altered_ram() {
     let (_, failure) = found(|| Wrong::boxed(Fault::Altered), garbage::play);
     assert!(failure.difference.text.contains("altered RAM"), "{}", failure.difference.text);
+}
+
+#[test]
+fn wrong_counts_are_found() {
+    let wrong: [Maker; 3] =
+        [|| Wrong::boxed(Fault::Waiting), || Wrong::boxed(Fault::Page), || Wrong::boxed(Fault::Cut)];
+    for wrong in wrong {
+        let (_, failure) = found(wrong, sessions::play);
+        assert!(failure.difference.text.contains("paper answers"), "{}", failure.difference.text);
+    }
+    let (_, failure) = found(|| Wrong::boxed(Fault::AlteredCount), garbage::play);
+    assert!(failure.difference.text.contains("it counts"), "{}", failure.difference.text);
 }
 
 #[test]

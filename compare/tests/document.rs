@@ -1,7 +1,9 @@
-//! The answers that document 01 gives: its twelve cases, those of its text, its run file's example.
+//! The answers that documents 01 and 02 give: 01's twelve cases, those of its text and its run file's example,
+//! and the counts of 02's request L1.
 
 use compare::adapters::FastStore;
 use compare::arena::{Arena, Maker};
+use compare::cases::counts::COUNTS;
 use compare::cases::document::Case;
 use compare::cases::text::TEXT;
 use compare::cases::twelve::TWELVE;
@@ -9,7 +11,8 @@ use compare::cover::Cover;
 use compare::paper::Paper;
 use compare::proved::{relog, ProvedStore};
 use compare::public::PublicStore;
-use compare::runfile::{example, parse, run, write};
+use compare::runfile::{example, parse, run, write, Session};
+use compare::store::{Call, Store};
 
 fn play(cases: &[Case]) {
     let makers: [Maker; 3] = [
@@ -35,36 +38,50 @@ fn cases_of_the_text() {
     play(&TEXT);
 }
 
-const FUSE_3: &str = "1 0 0 0
-1 1 0 1
-1 2 0 2
-1 3 0 3
-1 4 0 4
-1 5 0 5
-1 6 5 0
-2 0 0 3
-2 1 0 0
+#[test]
+fn counts_of_stored_writes() {
+    play(&COUNTS);
+}
+
+fn stores() -> [Box<dyn Store>; 4] {
+    [
+        Box::new(Paper::new()),
+        Box::new(FastStore::new()),
+        Box::new(ProvedStore::new()),
+        Box::new(PublicStore::new()),
+    ]
+}
+
+/// 01's lines with the counts at the end, which `example/README.md` works out.
+const FUSE_3: &str = "1 0 0 0 0 0
+1 1 0 1 0 0
+1 2 0 2 0 0
+1 3 0 3 0 0
+1 4 0 4 0 0
+1 5 0 5 0 0
+1 6 5 0 3 0
+2 0 0 3 3 0
+2 1 0 0 0 0
 ";
 
-const FUSE_6: &str = "1 0 0 0
-1 1 0 1
-1 2 0 2
-1 3 0 3
-1 4 0 4
-1 5 0 5
-1 6 0 6
-2 0 0 0
-2 1 0 -200
+const FUSE_6: &str = "1 0 0 0 0 0
+1 1 0 1 0 0
+1 2 0 2 0 0
+1 3 0 3 0 0
+1 4 0 4 0 0
+1 5 0 5 0 0
+1 6 0 6 6 0
+2 0 0 0 0 0
+2 1 0 -200 0 0
 ";
 
 #[test]
 fn lines_of_the_example() {
     for (fuse, lines) in [(3, FUSE_3), (6, FUSE_6)] {
         let file = write(&example(fuse));
-        assert_eq!(run(&file, &mut Paper::new()), lines);
-        assert_eq!(run(&file, &mut FastStore::new()), lines);
-        assert_eq!(run(&file, &mut ProvedStore::new()), lines);
-        assert_eq!(run(&file, &mut PublicStore::new()), lines);
+        for store in stores().iter_mut() {
+            assert_eq!(run(&file, store.as_mut()), lines);
+        }
         assert_eq!(relog(&file), lines);
     }
 }
@@ -117,16 +134,37 @@ fn run_files_that_give_15() {
 
 #[test]
 fn run_files_at_their_limits() {
-    use compare::runfile::Session;
-    use compare::store::Call;
     // 1 + 8 + 681 * 6 = 4,095 bytes; 32 sessions without calls.
     let longest = vec![Session { fuse: None, calls: vec![Call::Begin; 681] }];
     let lines = run(&write(&longest), &mut Paper::new());
     assert_eq!(relog(&write(&longest)), lines);
     assert_eq!(lines.lines().count(), 682);
-    assert!(lines.contains("\n1 16 0 16\n1 17 7 0\n"));
+    assert!(lines.contains("\n1 16 0 16 0 0\n1 17 7 0 0 0\n"));
     let many = vec![Session { fuse: Some(0), calls: vec![] }; 32];
     let lines = run(&write(&many), &mut Paper::new());
     assert_eq!(relog(&write(&many)), lines);
-    assert!(lines.ends_with("\n32 0 0 0\n"));
+    assert!(lines.ends_with("\n32 0 0 0 0 0\n"));
+}
+
+/// A visit of 677 rows, all of them stored: 64 with each of the rows 65, 129, .. 641, and the last 37 by the
+/// force. 676 undo rows and an abort row take it back, over two openings.
+#[test]
+fn counts_of_a_long_run_file() {
+    let change = Call::Change { visit: 1, cell: 0, amount: 1 };
+    let calls = [vec![Call::Begin], vec![change; 676], vec![Call::Force]].concat();
+    let file = write(&[
+        Session { fuse: None, calls },
+        Session { fuse: Some(500), calls: vec![] },
+        Session { fuse: None, calls: vec![] },
+    ]);
+    let mut lines = "1 0 0 0 0 0\n1 1 0 1 0 0\n".to_string();
+    for row in 2..=677 {
+        let stored = if row % 64 == 1 { 64 } else { 0 };
+        lines += &format!("1 {row} 0 {row} {stored} 0\n");
+    }
+    lines += "1 678 0 0 37 0\n2 0 5 0 500 0\n3 0 0 177 177 0\n";
+    for store in stores().iter_mut() {
+        assert_eq!(run(&file, store.as_mut()), lines);
+    }
+    assert_eq!(relog(&file), lines);
 }

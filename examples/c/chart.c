@@ -1,5 +1,6 @@
 /*
- * The chart store from C: a day at the scale, with a power failure in it. Each answer is printed and checked; the program returns 1 if any of them differs.
+ * The chart store from C: a day at the scale, with a power failure in it. Each answer is printed and checked, and what each session has stored; the program
+ * returns 1 if any of them differs.
  */
 #include <stdio.h>
 #include <string.h>
@@ -27,20 +28,34 @@ static void remember(void) {
     memcpy(charts_before, stored_charts, sizeof charts_before);
 }
 
+/* The sums of the counts of a session: an opening and the calls after it. */
+static unsigned rows_stored, pages_stored;
+
 static void expect(const char *what, chart_answer a, int number, int32_t value) {
     int same = chart_number(a) == number && chart_value(a) == value;
-    printf("%-40s %2d %6d  %s%s\n", what, chart_number(a), (int)chart_value(a), chart_text(chart_number(a)), same ? "" : "   <- not as expected");
+    printf("%-40s %2d %6d %4u %5u  %s%s\n", what, chart_number(a), (int)chart_value(a), chart_rows(a), chart_pages(a), chart_text(chart_number(a)),
+           same ? "" : "   <- not as expected");
     failures += !same;
+    rows_stored += chart_rows(a);
+    pages_stored += chart_pages(a);
     remember();
 }
 
-/* The refusal is as expected, and no byte of RAM, log and charts has changed since the last call. */
+/* The session ends, and its calls have stored so many rows and pages. */
+static void expect_stored(unsigned rows, unsigned pages) {
+    int same = rows_stored == rows && pages_stored == pages;
+    printf("%-50s %4u %5u%s\n", "  the session has stored", rows_stored, pages_stored, same ? "" : "   <- not as expected");
+    failures += !same;
+    rows_stored = pages_stored = 0;
+}
+
+/* The refusal is as expected and counts no stored write, and no byte of RAM, log and charts has changed since the last call. */
 static void expect_unchanged(const char *what, chart_answer a, int number, int32_t value) {
     int changed = memcmp(&ram_before, &ram, sizeof ram) != 0 || memcmp(log_before, stored_log, sizeof log_before) != 0 ||
                   memcmp(charts_before, stored_charts, sizeof charts_before) != 0;
     expect(what, a, number, value);
-    if (changed) {
-        puts("   <- a refusal changed a byte");
+    if (changed || chart_rows(a) != 0 || chart_pages(a) != 0) {
+        puts("   <- a refusal changed a byte, or counts a stored write");
         failures++;
     }
 }
@@ -52,7 +67,7 @@ int main(void) {
     static const chart_ram zero = {{0}, {0}, {0}, {0}, {0}};
     cells[7] = 70000;
 
-    puts("call                                 number  value");
+    puts("call                                 number  value rows pages");
     expect("format, cell 7 at 70,000 g", chart_format(s, cells, CHART_CELLS), CHART_DONE, 0);
     expect_unchanged("begin before any opening", chart_begin(s), CHART_CLOSED, 0);
     expect("open, no fuse", chart_open(s, CHART_NO_FUSE), CHART_DONE, 0);
@@ -65,12 +80,14 @@ int main(void) {
     expect("visit 1 adds 90 g to cell 8", chart_change(s, 1, 8, 90), CHART_DONE, 5);
     expect("visit 2 commits: cell 7 lasts", chart_commit(s, 2), CHART_DONE, 6);
     expect("flush the page of cell 8", chart_flush(s, 8 / CHART_CELLS_PER_PAGE), CHART_DONE, 0);
+    expect_stored(6, 1); /* the commit stored rows 1 to 6, the flush its page: the rows of the page were stored */
 
     /* The plug is pulled: RAM is lost, log and charts stay as they are. */
     memset(&ram, 0xA5, sizeof ram);
     expect("open: cell 8 undone, visit 1 ended", chart_open(s, CHART_NO_FUSE), CHART_DONE, 2);
     expect("read cell 7", chart_read(s, 7), CHART_DONE, 69650);
     expect("read cell 8", chart_read(s, 8), CHART_DONE, 0);
+    expect_stored(2, 0); /* an undo row and an abort row */
 
     /* The plug is pulled in the middle of a commit: of its rows only two land. */
     expect("open, two writes land", chart_open(s, 2), CHART_DONE, 0);
@@ -86,6 +103,7 @@ int main(void) {
     ram.copy[0] = 1;
     remember();
     expect_unchanged("begin: closed, whatever RAM holds", chart_begin(s), CHART_CLOSED, 0);
+    expect_stored(2, 0); /* the writes of the fuse: the rows of begin and change */
     expect("open: the weighing is undone", chart_open(s, CHART_NO_FUSE), CHART_DONE, 2);
     expect("read cell 7", chart_read(s, 7), CHART_DONE, 69650);
 
@@ -101,6 +119,7 @@ int main(void) {
     cells[5] = CHART_FORMAT_GRAMS + 1;
     expect_unchanged("format, cell 5 out of range", chart_format(s, cells, CHART_CELLS), CHART_OUT_OF_RANGE, 5);
     expect("force", chart_force(s), CHART_DONE, 0);
+    expect_stored(2, 0); /* an undo row and an abort row; no row waited for the force */
     stored_log[CHART_ROW_LENGTH * 2 + 1] ^= 1;
     expect("open a log whose row 3 was altered", chart_open(s, CHART_NO_FUSE), CHART_BAD_ROW, 3);
 

@@ -1,5 +1,7 @@
-//! Cases with the answers that document 01 gives: the twelve of its list, and those of its text.
+//! Cases with the answers that documents 01 and 02 give: the twelve of 01's list, those of its text, and the
+//! counts of 02's request L1.
 
+use super::counts::COUNTS;
 use super::text::TEXT;
 use super::twelve::TWELVE;
 use crate::arena::{Arena, Outcome};
@@ -13,10 +15,10 @@ pub struct Case {
     pub play: fn(&mut Arena) -> Outcome<()>,
 }
 
-pub const COUNT: u64 = (TWELVE.len() + TEXT.len()) as u64;
+pub const COUNT: u64 = (TWELVE.len() + TEXT.len() + COUNTS.len()) as u64;
 
 pub fn play(bench: &mut Bench, seed: u64) -> Result<(), Failure> {
-    let mut cases = TWELVE.iter().chain(&TEXT);
+    let mut cases = TWELVE.iter().chain(&TEXT).chain(&COUNTS);
     if let Some(case) = cases.nth(seed as usize) {
         bench.case(case.play)?;
     }

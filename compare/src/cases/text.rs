@@ -12,18 +12,18 @@ pub const TEXT: [Case; 33] = [
         name: "the run file's example with fuse 3",
         play: |a| {
             example(a, 3)?;
-            a.expect(commit(2), 5, 0)?;
-            a.expect(open(None), 0, 3)?;
-            a.expect(read(0), 0, 0)
+            a.expect_line(commit(2), "5 0 3 0")?;
+            a.expect_line(open(None), "0 3 3 0")?;
+            a.expect_line(read(0), "0 0 0 0")
         },
     },
     Case {
         name: "the run file's example with fuse 6",
         play: |a| {
             example(a, 6)?;
-            a.expect(commit(2), 0, 6)?;
-            a.expect(open(None), 0, 0)?;
-            a.expect(read(0), 0, -200)
+            a.expect_line(commit(2), "0 6 6 0")?;
+            a.expect_line(open(None), "0 0 0 0")?;
+            a.expect_line(read(0), "0 -200 0 0")
         },
     },
     Case {
@@ -547,12 +547,12 @@ pub const TEXT: [Case; 33] = [
 /// The calls that the two forms of the run file's example have in common.
 fn example(arena: &mut Arena, fuse: u32) -> Outcome<()> {
     arena.step(Step::Format(vec![0; CELLS]))?;
-    arena.expect(open(Some(fuse)), 0, 0)?;
-    arena.expect(begin(), 0, 1)?;
-    arena.expect(begin(), 0, 2)?;
-    arena.expect(change(1, 0, -200), 0, 3)?;
-    arena.expect(hand_over(1, 2, 0), 0, 4)?;
-    arena.expect(abort(1), 0, 5)
+    arena.expect_line(open(Some(fuse)), "0 0 0 0")?;
+    arena.expect_line(begin(), "0 1 0 0")?;
+    arena.expect_line(begin(), "0 2 0 0")?;
+    arena.expect_line(change(1, 0, -200), "0 3 0 0")?;
+    arena.expect_line(hand_over(1, 2, 0), "0 4 0 0")?;
+    arena.expect_line(abort(1), "0 5 0 0")
 }
 
 /// The rows with one more.

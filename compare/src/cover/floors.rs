@@ -34,7 +34,7 @@ pub const TABLES: [Table; 5] = [PLAYED, ANSWERS, PAIRS, WRITES, SHAPES];
 pub const PLAYED: Table = Table {
     title: "cases and calls, by part",
     lines: &[
-        ("document", &[("cases", 15), ("calls", 3_800)]),
+        ("document", &[("cases", 19), ("calls", 4_100)]),
         ("short", &[("cases", 4_800), ("calls", 48_000)]),
         ("sessions", &[("cases", 500), ("calls", 71_000)]),
         ("rows", &[("cases", 3_300), ("calls", 7_500)]),
@@ -63,4 +63,7 @@ pub const ALTERED: &[Floor] = &[
     ("5, counters beyond their limits", 670),
     ("5, power failed", 51),
     ("5, the log is full", 9),
+    ("done, rows counted", 160),
+    ("done, a page counted", 110),
+    ("5, rows counted", 38),
 ];

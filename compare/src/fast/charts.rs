@@ -15,6 +15,7 @@ fn place_of(cell: u8) -> usize {
     page_of(cell) * PAGE + 4 + 4 * (usize::from(cell) % CELLS_PER_PAGE)
 }
 
+#[inline]
 pub fn get_cell(charts: &[u8], cell: u8) -> i32 {
     let at = place_of(cell);
     i32::from_le_bytes([charts[at], charts[at + 1], charts[at + 2], charts[at + 3]])

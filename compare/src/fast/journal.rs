@@ -27,13 +27,25 @@ fn spend_write(ram: &mut Ram) -> Result<(), Stopped> {
     }
 }
 
-/// Stores the first rows of the tail and moves the others up.
-fn force_rows(ram: &mut Ram, log: &mut [u8], count: usize) -> Result<(), Stopped> {
+/// Stores so many of the first rows of the tail, or those before power fails. Gives how many have landed.
+fn store_rows(ram: &mut Ram, log: &mut [u8], count: usize) -> usize {
     for index in 0..count {
-        spend_write(ram)?;
+        if spend_write(ram).is_err() {
+            return index;
+        }
         let at = usize::from(ram.stored) * ROW;
         log[at..at + ROW].copy_from_slice(&ram.tail[index * ROW..(index + 1) * ROW]);
         ram.stored += 1;
+    }
+    count
+}
+
+/// Stores the first rows of the tail and moves the others up.
+fn force_rows(ram: &mut Ram, lent: &mut Lent, count: usize) -> Result<(), Stopped> {
+    let landed = store_rows(ram, lent.log, count);
+    lent.landed.rows += landed as u16;
+    if landed < count {
+        return Err(Stopped);
     }
     let waiting = usize::from(ram.waiting);
     ram.tail.copy_within(count * ROW..waiting * ROW, 0);
@@ -42,14 +54,14 @@ fn force_rows(ram: &mut Ram, log: &mut [u8], count: usize) -> Result<(), Stopped
     Ok(())
 }
 
-pub fn force_all(ram: &mut Ram, log: &mut [u8]) -> Result<(), Stopped> {
-    force_rows(ram, log, usize::from(ram.waiting))
+pub fn force_all(ram: &mut Ram, lent: &mut Lent) -> Result<(), Stopped> {
+    force_rows(ram, lent, usize::from(ram.waiting))
 }
 
 /// Puts a row, which gets its number here, at the end of the tail. Copy and tables follow it.
 pub fn append(ram: &mut Ram, lent: &mut Lent, mut row: Row) -> Result<u16, Stopped> {
     if usize::from(ram.waiting) == TAIL_ROWS {
-        force_all(ram, lent.log)?;
+        force_all(ram, lent)?;
     }
     if ram.rows() >= ROWS {
         return Err(Stopped);
@@ -75,6 +87,7 @@ pub fn store_row(ram: &mut Ram, lent: &mut Lent, mut row: Row) -> Result<(), Sto
     let at = usize::from(ram.stored) * ROW;
     lent.log[at..at + ROW].copy_from_slice(&row.encode());
     ram.stored += 1;
+    lent.landed.rows += 1;
     apply(lent.copy, &row);
     let rows = Rows { log: lent.log, stored: ram.stored, tail: &[] };
     ram.tables.follow(lent.scopes, &row, &rows);
@@ -84,9 +97,10 @@ pub fn store_row(ram: &mut Ram, lent: &mut Lent, mut row: Row) -> Result<(), Sto
 /// Stores the rows that the page's copy bears, then the page.
 pub fn store_page(ram: &mut Ram, lent: &mut Lent, page: usize) -> Result<(), Stopped> {
     let missing = get_mark(lent.copy, page).saturating_sub(ram.stored);
-    force_rows(ram, lent.log, usize::from(missing.min(ram.waiting)))?;
+    force_rows(ram, lent, usize::from(missing.min(ram.waiting)))?;
     spend_write(ram)?;
     let bytes = page * PAGE..(page + 1) * PAGE;
     lent.charts[bytes.clone()].copy_from_slice(&lent.copy[bytes]);
+    lent.landed.pages += 1;
     Ok(())
 }

@@ -25,6 +25,7 @@ impl Tables {
         Tables { begun: 0, active_count: 0, active: [0; MOST_ACTIVE], scope_count: 0 };
 
     /// Where the visit stands among the active ones.
+    #[inline]
     pub fn place(&self, visit: u16) -> Option<usize> {
         let active = &self.active[..usize::from(self.active_count)];
         active.iter().position(|active| *active == visit)
@@ -39,6 +40,7 @@ impl Tables {
     }
 
     /// Active visits and open changes.
+    #[inline]
     pub fn reserve(&self, scopes: &[Scope]) -> usize {
         let open: usize = self.in_use(scopes).iter().map(|scope| usize::from(scope.count)).sum();
         usize::from(self.active_count) + open
@@ -56,6 +58,7 @@ impl Tables {
     }
 
     /// The highest open change of the holder, 0 for none.
+    #[inline]
     pub fn highest(&self, scopes: &[Scope], holder: u16) -> u16 {
         let held = self.in_use(scopes).iter().filter(|scope| scope.holder == holder);
         held.map(|scope| scope.last).max().unwrap_or(0)

@@ -1,6 +1,6 @@
 //! What an opening found and left.
 
-use super::{cuts, is_on_page, label, undo_rows, Moment};
+use super::{is_on_page, label, undo_rows, writes, Moment};
 use crate::cover::Cover;
 use crate::paper::{self, get_mark, rows_of, Ledger, Row, UNDO};
 use crate::store::{Answer, Lengths};
@@ -46,8 +46,9 @@ pub fn open(cover: &mut Cover, opening: &Opening) {
     let lost = opening.sound && before.open && before.waiting > 0;
     cover.shape_if(lost, "opening of waiting rows, without a cut");
     if answer.number == 5 {
-        return cuts::opening(cover, &Ledger::of(&rows[..stored]), new.len());
+        return writes::cut_opening(cover, &Ledger::of(&rows[..stored]), answer.writes);
     }
+    cover.writes_if(answer.writes.rows > 0, "open", "rows stored");
     cover.most("rows written by an opening", new.len());
     cover.most("rows stored", rows.len());
     cover.shape_if(new.is_empty(), "opening that wrote no row");

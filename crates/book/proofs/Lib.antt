@@ -25,6 +25,8 @@ pub mod Adds
 pub mod Sound
 pub mod Openings
 pub mod Claims
+pub mod Writes
+pub mod SessionWrites
 pub mod Reopened
 -- bytes
 pub mod Numbers
@@ -51,4 +53,5 @@ pub mod AtTheLimit
 pub mod TwoViolations
 pub mod HandOvers
 pub mod StoredWrites
+pub mod StoredCounts
 pub mod StoredBytes

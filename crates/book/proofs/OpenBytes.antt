@@ -14,6 +14,7 @@ use Rattle.book.specs.Power.{Book, Fuse, rowsOf}
 use Rattle.book.specs.Book.{closing, Outcome, reopened, reopen}
 use Rattle.book.specs.LogBytes.{logBytes}
 use Rattle.book.specs.Pages.{chartBytes, pageAt, pageAfter, redone}
+use Rattle.book.specs.Writes.{openingWrites}
 use Rattle.book.specs.Opening.{Opened, noCopy, badPage, openBytes}
 use Rattle.book.proofs.Steps.{extends-open}
 use Rattle.book.proofs.Sound.{ended-book}
@@ -21,20 +22,20 @@ use Rattle.book.proofs.LogBytes.{log-good}
 use Rattle.book.proofs.Pages.{Bounded, chartsAsOf, charts-redone}
 
 -- what the book's opening comes to in bytes, with this copy
-abbrev withCopy : List ℕ → Outcome → Opened
-withCopy copy o = record { answer = o .answer; book = o .book; log = logBytes (o .book .stored); copy = copy }
+abbrev withCopy : List Row → List ℕ → Outcome → Opened
+withCopy rs copy o = record { answer = o .answer; book = o .book; log = logBytes (o .book .stored); copy = copy; writes = openingWrites rs o }
 
 -- the copy is what all rows make of the cells, if the power held
-abbrev pub byTheBook : (ℕ → ℤ) → Outcome → Opened
-byTheBook cells o = withCopy (cond (o .book .isOpen) (chartBytes (pageAfter cells (rowsOf (o .book)))) noCopy) o
+abbrev pub byTheBook : (ℕ → ℤ) → List Row → Outcome → Opened
+byTheBook cells rs o = withCopy rs (cond (o .book .isOpen) (chartBytes (pageAfter cells (rowsOf (o .book)))) noCopy) o
 
 module _ (cells : ℕ → ℤ) (b : ℕ) (small : Bounded b cells) (bound : b + 134217728 < 2147483648)
     (rs : List Row) (al : allowedLog rs ≡ true) (few : length rs ≤ 4096)
     (marks : ℕ → ℕ) (marked : (p : ℕ) → p < 32 → lastOn p (take (marks p) rs) ≡ marks p) where
   pub open-bytes : (f : Fuse) (charts : List ℕ) → charts ≡ chartsAsOf cells rs marks → badPage rs charts ≡ 32
-      → openBytes f (logBytes rs) charts ≡ byTheBook cells (reopen f rs)
+      → openBytes f (logBytes rs) charts ≡ byTheBook cells rs (reopen f rs)
   unfolding openBytes reopen
-  open-bytes f charts are good = rw (log-good rs al few, good) (ap (λ (c : List ℕ). withCopy c (reopen f rs)) (copy (reopen f rs .book .isOpen) refl))
+  open-bytes f charts are good = rw (log-good rs al few, good) (ap (λ (c : List ℕ). withCopy rs c (reopen f rs)) (copy (reopen f rs .book .isOpen) refl))
     where
       rows : reopen f rs .book .isOpen ≡ true → rowsOf (reopen f rs .book) ≡ rs ++ closing (ledger rs)
       rows o =

@@ -63,11 +63,11 @@ module _ (rs more : List Row) where
 
 -- an opening of the bytes of an allowed log and of pages that pass
 pub open-passed : (rs : List Row) (charts : List ℕ) → allowedLog rs ≡ true → badPage rs charts ≡ 32 → (f : Fuse)
-    → openBytes f (logBytes rs) charts ≡ recovered charts (reopen f rs)
+    → openBytes f (logBytes rs) charts ≡ recovered rs charts (reopen f rs)
 unfolding openBytes
 open-passed rs charts al good f =
     ap (checked f (logBytes rs) charts) (log-good rs al (few-rows rs al)) ∙
-    ap (λ (p : ℕ). cond (ltb p pageLimit) (rejected 4 p (logBytes rs)) (recovered charts (reopen f rs))) good
+    ap (λ (p : ℕ). cond (ltb p pageLimit) (rejected 4 p (logBytes rs)) (recovered rs charts (reopen f rs))) good
 
 -- the log and the copy that one opening leaves if the power holds
 pub record AsUncut (rs : List Row) (charts : List ℕ) (o : Opened) : Type 0 where
@@ -89,7 +89,7 @@ module _ (rs : List Row) (charts : List ℕ) (al : allowedLog rs ≡ true) (good
       later : List Row
       later = storedAfter rs fs
 
-      is : openBytes f (logBytes later) charts ≡ recovered charts (reopen f later)
+      is : openBytes f (logBytes later) charts ≡ recovered later charts (reopen f later)
       is = let k = after-cuts fs rs al in open-passed later charts (k .allowed) (rw (k .starts .1) (pages-later rs (k .starts .0) charts good)) f
 
       o : reopened f later .isOpen ≡ true

@@ -8,7 +8,9 @@ pub mod Cells
 pub mod Calls
 pub mod Power
 pub mod Book
+pub mod Writes
 pub mod Events
+pub mod SessionWrites
 pub mod Numbers
 pub mod RowBytes
 pub mod LogBytes

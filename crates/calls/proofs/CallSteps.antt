@@ -1,9 +1,10 @@
 -- What the parts of an accepted call come to: a row with the tables after it, a force, a take-back, a flush. Assumes nothing.
 use Prim.Native.Nat.{ℕ, suc}
-use mathlib.Core.Path.{_≡_, refl}
+use mathlib.Core.Path.{_≡_, refl, ap}
+use mathlib.Core.Bool.{Bool, true, false, cond}
 use mathlib.Core.List.{List}
 use lib.IntN.{ℤ}
-use Rattle.book.specs.Rows.{Row}
+use Rattle.book.specs.Rows.{Row, effect, nothing}
 use Rattle.book.specs.Calls.{Call}
 use Rattle.book.specs.Pages.{pageAt}
 use Rattle.tables_model.specs.declared.Whom.the-variants.{One}
@@ -13,8 +14,9 @@ use Rattle.tables_model.specs.Table.{scopesHanded}
 use Rattle.tables_model.specs.Rows.{Index, afterChange, afterEnd}
 use Rattle.book.specs.Ledger.{only}
 use Rattle.book.specs.Scopes.{Scope}
-use Rattle.journal.specs.Journal.{Journal, forced, forcedUpTo, Paged, paged}
-use Rattle.wal.specs.Writing.{Ram, rowCount, written}
+use Rattle.charts.specs.Moves.{chartsMoved}
+use Rattle.journal.specs.Journal.{Journal, appended, forced, forcedUpTo, Paged, paged}
+use Rattle.wal.specs.Writing.{Ram, rowCount, isRunning, written}
 use Rattle.wal.specs.TakeBack.{Taking, fallAll}
 use Rattle.calls_model.specs.Acts.{Core, flushCount, acted}
 
@@ -24,6 +26,15 @@ indexIn x = record { tables = x .tables; scopes = x .scopes }
 
 abbrev pub assembled : Ram → List ℕ → Index → Core
 assembled m charts i = record { ram = m; charts = charts; tables = i .tables; scopes = i .scopes }
+
+-- a row that changes no cell is written where it is appended
+not-applied : (m : Ram) (r : Row) → effect r ≡ nothing → (j : Journal) → j ≡ appended (m .journal) r → record { journal = j; copy = m .copy } ≡ written m r
+unfolding written chartsMoved
+not-applied m r e j is = rw (is, e) (ap (λ (c : List ℕ). record { journal = appended (m .journal) r; copy = c }) (go (isRunning (appended (m .journal) r))))
+  where
+    go : (t : Bool) → m .copy ≡ cond t (m .copy) (m .copy)
+    go true = refl
+    go false = refl
 
 module _ (x : Core) where
   abbrev next : ℕ
@@ -49,12 +60,13 @@ module _ (x : Core) where
   unfolding acted
   commits v m i j q p e = rw (e, p, q)
 
-  pub aborts : (v : ℕ) (t : Taking) (m : Ram) (i : Index)
+  -- the abort row changes no cell
+  pub aborts : (v : ℕ) (t : Taking) (j : Journal) (i : Index)
       → t ≡ fallAll (rowCount (x .ram .journal)) (One (record { 0 = v })) (x .tables .used) (record { ram = x .ram; scopes = x .scopes })
-      → i ≡ afterEnd (record { tables = x .tables; scopes = t .scopes }) v → m ≡ written (t .ram) (Row.abort v)
-      → assembled m (x .charts) i ≡ acted x (Call.abort v)
+      → i ≡ afterEnd (record { tables = x .tables; scopes = t .scopes }) v → j ≡ appended (t .ram .journal) (Row.abort v)
+      → assembled (record { journal = j; copy = t .ram .copy }) (x .charts) i ≡ acted x (Call.abort v)
   unfolding acted
-  aborts v t m i e q p = rw (p, q, e)
+  aborts v t j i e q p = rw (not-applied (t .ram) (Row.abort v) refl j p, q, e)
 
   pub flushes : (p m : ℕ) (j : Journal) (g : Paged) → m ≡ flushCount x p → j ≡ forcedUpTo m (x .ram .journal)
       → g ≡ paged (j .control) (x .charts) p (pageAt (x .ram .copy) p)

@@ -8,6 +8,7 @@ use native.Mathlib.Omega.{arith}
 use borrow.Author.Tests.{leb-true, not-false}
 use Rattle.book.specs.Calls.{Call}
 use Rattle.book.specs.Scopes.{Scope}
+use Rattle.book.specs.Writes.{noWrites}
 use Rattle.book.specs.Book.{Answer, _else_, refusedBy}
 use Rattle.book.proofs.Adds.{passes}
 use Rattle.book.proofs.Lists.{and-l, and-r}
@@ -90,6 +91,6 @@ passed c t vs scopes k e =
     record { running = not-false (isOpenPhase (c .phase)) (first .0); within = coherent c t vs (not-false inside (p .0)); free = p .1 }
 
 -- a check refuses it
-pub when-refused : (w : World) (k : Call) (a : Answer) (n : ℕ) → a ≡ refusedBy n → (n ≡ 0 → ⊥) → _≡_ {A = Answered} (record { answer = a; world = w }) (decided w k n)
+pub when-refused : (w : World) (k : Call) (a : Answer) (n : ℕ) → a ≡ refusedBy n → (n ≡ 0 → ⊥) → _≡_ {A = Answered} (record { answer = a; world = w; writes = noWrites }) (decided w k n)
 when-refused w k a zero e h = absurd (h refl)
 when-refused w k a (suc n) e h = rw e

@@ -2,7 +2,7 @@
 ghost use mathlib.Core.Path.{_≡_};
 ghost use mathlib.Core.Logic.{_⊎_};
 ghost use mathlib.Core.List.{List};
-ghost use Prim.Native.Nat.{ℕ, _+_, _≤_};
+ghost use Prim.Native.Nat.{ℕ, _+_, _-_, _≤_};
 ghost use lib.IntN.{pos};
 ghost use lib.ListN.{length};
 ghost use Rattle.book.specs.Limits.{chartsLength, rowLimit};
@@ -24,41 +24,56 @@ use charts::charts::read_cell;
 use journal::Control;
 use journal::Outcome;
 use journal::force::force;
+use journal::landed::rows_between;
 use rows::Cell;
 use rows::Lsn;
 use rows::Visit;
 use state::answers::Answer;
+use state::answers::Writes;
+use state::answers::no_writes;
 use state::ram::Phase;
 use tables_model::Counts;
 use wal::clear::clear_ram;
 
-// Where the power held the call gives this answer; where it failed RAM is cleared.
+// Where the power held the call gives this answer; where it failed RAM is cleared. `before` rows were stored before the call; `pages` is what it counts where the power held, since a page is its last write.
 fn settle(
+    before: usize,
     a: Acted,
     answer: Answer,
+    pages: usize,
     copy: &mut [u8],
     tail: &mut [u8],
     visits: &mut [u16],
     scopes: &mut [u16],
 ) -> Outcome
     requires { ⌜ (length (now copy) ≡ chartsLength) × (length (now tail) ≡ tailLength) × (length (now visits) ≡ visitsLength) × (length (now scopes) ≡ flatLength) ⌝ }
-    ensures { λ r. ⌜ Held (a .control) (a .counts) answer (now (copy .entry)) (now (tail .entry)) (now (visits .entry)) (now (scopes .entry)) r
+    ensures { λ r. ⌜ Held (a .control) (a .counts) answer (a .control .stored - before) pages (now (copy .entry)) (now (tail .entry)) (now (visits .entry)) (now (scopes .entry)) r
         (now (copy .exit)) (now (tail .exit)) (now (visits .exit)) (now (scopes .exit))
-        ⊎ Failed (a .control) r (now (copy .exit)) (now (tail .exit)) (now (visits .exit)) (now (scopes .exit)) ⌝ }
+        ⊎ Failed (a .control) (a .control .stored - before) r (now (copy .exit)) (now (tail .exit)) (now (visits .exit)) (now (scopes .exit)) ⌝ }
 {
     let c = a.control;
+    let rows = rows_between(before, c.stored);
     let phase = c.phase;
     match phase {
         Phase::Closed => {
-            return clear_ram(copy, tail, visits, scopes, Answer::Closed);
+            let writes = Writes {
+                rows: rows,
+                pages: 0,
+            };
+            return clear_ram(copy, tail, visits, scopes, Answer::Closed, writes);
         }
         Phase::Open => {}
     }
     let t = a.counts;
+    let writes = Writes {
+        rows: rows,
+        pages: pages,
+    };
     Outcome {
         answer: answer,
         control: c,
         counts: t,
+        writes: writes,
     }
 }
 
@@ -85,7 +100,7 @@ pub fn accept_begin(
 {
     let v = Visit(t.begun + 1);
     let a = begin(c, t, visits, log, copy, tail, scopes);
-    settle(a, Answer::Visit(v), copy, tail, visits, scopes)
+    settle(c.stored, a, Answer::Visit(v), 0, copy, tail, visits, scopes)
 }
 
 pub fn accept_change(
@@ -107,7 +122,7 @@ pub fn accept_change(
     let a = change(c, t, visits, log, copy, tail, scopes, v, k, z);
     let d = a.control;
     let answer = row_answer(d);
-    settle(a, answer, copy, tail, visits, scopes)
+    settle(c.stored, a, answer, 0, copy, tail, visits, scopes)
 }
 
 pub fn accept_hand_over(
@@ -129,7 +144,7 @@ pub fn accept_hand_over(
     let a = hand_over(c, t, visits, log, copy, tail, scopes, g, v, k);
     let d = a.control;
     let answer = row_answer(d);
-    settle(a, answer, copy, tail, visits, scopes)
+    settle(c.stored, a, answer, 0, copy, tail, visits, scopes)
 }
 
 pub fn accept_commit(
@@ -149,7 +164,7 @@ pub fn accept_commit(
     let a = commit(c, t, visits, log, copy, tail, scopes, v);
     let d = a.control;
     let answer = row_answer(d);
-    settle(a, answer, copy, tail, visits, scopes)
+    settle(c.stored, a, answer, 0, copy, tail, visits, scopes)
 }
 
 pub fn accept_abort(
@@ -169,7 +184,7 @@ pub fn accept_abort(
     let a = abort(c, t, visits, log, copy, tail, scopes, v);
     let d = a.control;
     let answer = row_answer(d);
-    settle(a, answer, copy, tail, visits, scopes)
+    settle(c.stored, a, answer, 0, copy, tail, visits, scopes)
 }
 
 pub fn accept_force(
@@ -190,7 +205,7 @@ pub fn accept_force(
         control: d,
         counts: t,
     };
-    settle(a, Answer::Done, copy, tail, visits, scopes)
+    settle(c.stored, a, Answer::Done, 0, copy, tail, visits, scopes)
 }
 
 pub fn accept_flush(
@@ -213,7 +228,7 @@ pub fn accept_flush(
         control: d,
         counts: t,
     };
-    settle(a, Answer::Done, copy, tail, visits, scopes)
+    settle(c.stored, a, Answer::Done, 1, copy, tail, visits, scopes)
 }
 
 // A read changes nothing.
@@ -230,11 +245,13 @@ pub fn accept_read(
     requires { ⌜ Accepts c t (length (now log)) (length (now copy)) (length (now tail)) (now visits) (now scopes) (Call.read (k .0)) ⌝ }
     ensures { λ r. ⌜ ((charts : List ℕ) → Accepted (core c t (now (visits .entry)) (now (log .entry)) charts (now (copy .entry)) (now (tail .entry)) (now (scopes .entry))) (Call.read (k .0)) r
         (now (log .entry)) charts (now (copy .entry)) (now (tail .entry)) (now (visits .entry)) (now (scopes .entry)))
-        × (r .control ≡ c) × (r .counts ≡ t) ⌝ }
+        × (r .control ≡ c) × (r .counts ≡ t) × (r .writes ≡ record { rows = 0; pages = 0 }) ⌝ }
 {
+    let writes = no_writes();
     Outcome {
         answer: Answer::Grams(read_cell(copy, k)),
         control: c,
         counts: t,
+        writes: writes,
     }
 }

@@ -15,6 +15,7 @@ use journal::Control;
 use journal::force::force;
 use journal::force::force_up_to;
 use journal::pages::write_page;
+use journal::tail::append;
 use rows::Cell;
 use rows::Lsn;
 use rows::Row;
@@ -130,7 +131,7 @@ pub(crate) fn commit(
     }
 }
 
-// The visit's open changes fall; at most as many as there are rows.
+// The visit's open changes fall; at most as many as there are rows. The abort row changes no cell, so that it is appended and not applied.
 pub(crate) fn abort(
     c: Control,
     t: Counts,
@@ -147,7 +148,7 @@ pub(crate) fn abort(
 {
     let d = take_back(c, log, tail, copy, scopes, t.used, Whom::One(v));
     let counts = after_end(t, visits, scopes, v);
-    let control = write(d, log, tail, copy, Row::Abort(v));
+    let control = append(d, log, tail, Row::Abort(v));
     Acted {
         control: control,
         counts: counts,

@@ -1,7 +1,7 @@
 -- What a call promises whatever it was handed: the numbers of its table, refusals that change nothing, and what a power failure leaves.
-use Prim.Native.Nat.{ℕ, zero, suc, _+_}
+use Prim.Native.Nat.{ℕ, zero, suc, _+_, _-_}
 use native.Mathlib.Omega.{arith}
-use mathlib.Core.Path.{_≡_, refl, ap, sym, _∙_, subst}
+use mathlib.Core.Path.{_≡_, refl, ap, ap₂, sym, _∙_, subst}
 use mathlib.Core.Logic.{_≢_}
 use mathlib.Core.Bool.{Bool, true, false, cond, not, _||_}
 use mathlib.Core.List.{List, map}
@@ -12,8 +12,10 @@ use Rattle.book.specs.Lists.{member}
 use Rattle.book.specs.Limits.{visitLimit, activeLimit, scopeLimit, pageLimit}
 use Rattle.book.specs.Rows.{isCell}
 use Rattle.book.specs.Ledger.{only}
-use Rattle.book.specs.Calls.{Call}
+use Rattle.book.specs.Calls.{Call, ending}
+use Rattle.book.specs.Writes.{Writes, pagesOf}
 use Rattle.book.proofs.Lists.{clash}
+use Rattle.book.proofs.Writes.{no-page}
 use Rattle.tables_model.specs.Visits.{isListed}
 use Rattle.tables_model.specs.Rows.{Index, roomBy, growsBy, holdsBy}
 use Rattle.state.specs.declared.ram.Phase.{Phase}
@@ -21,14 +23,14 @@ use Rattle.state.specs.declared.ram.Phase.the-variants.{Open, Closed}
 use Rattle.state.specs.declared.ram.Fuse.{Fuse}
 use Rattle.state.specs.declared.ram.Fuse.the-variants.{Unlimited, Left}
 use Rattle.state.specs.World.{World, rightLengths, isOpenPhase, inLimits, works, cleared}
-use Rattle.state.specs.Contracts.{Answered, answered, numbers}
+use Rattle.state.specs.Contracts.{Answered, answered, answeredWith, failedAfter, numbers}
 use Rattle.state.proofs.OwnNumbers.{Own, own, check, own-listed, own-not-five}
 use Rattle.journal.specs.declared.Control.{Control}
 use Rattle.journal.specs.Journal.{paged}
 use Rattle.wal.specs.Writing.{isRunning}
 use Rattle.calls_model.specs.Refusals.{refusalBy}
 use Rattle.calls_model.specs.Acts.{Core, acted}
-use Rattle.calls_model.specs.Perform.{controlIn, coreOf, worldOfCore, settled, decided, isCoherent, numberOf, performed}
+use Rattle.calls_model.specs.Perform.{controlIn, coreOf, worldOfCore, settled, writesBy, decided, isCoherent, numberOf, performed}
 
 -- ── The numbers ───────────────────────────────────────────────────────────────────────────────────────────────────────
 
@@ -81,16 +83,23 @@ charts-cut x (Call.read c) e = refl
 -- what an accepted call gives back and leaves: done, or closed with the charts as they were
 data Settled (charts : List ℕ) (r : Answered) : Type 0 where
   done : r .answer .number ≡ 0 → Settled charts r
-  closed : r ≡ answered 5 (pos 0) (cleared (r .world .log) charts) → Settled charts r
+  closed : r ≡ failedAfter (r .writes .rows) (cleared (r .world .log) charts) → Settled charts r
 
-settled-either : (x : Core) (k : Call) (v : ℤ) → Settled (x .charts) (settled (acted x k) v)
-unfolding settled
+settled-either : (x : Core) (k : Call) (v : ℤ) → let y = acted x k in Settled (x .charts) (settled y v (writesBy x y k))
+unfolding settled writesBy
 settled-either x k v = go (isRunning (acted x k .ram .journal)) refl
   where
-    go : (t : Bool) → isRunning (acted x k .ram .journal) ≡ t
-        → Settled (x .charts) (cond t (answered 0 v (worldOfCore (acted x k))) (answered 5 (pos 0) (cleared (acted x k .ram .journal .log) (acted x k .charts))))
+    y : Core
+    y = acted x k
+
+    u : Bool → Writes
+    u t = record { rows = y .ram .journal .control .stored - x .ram .journal .control .stored; pages = pagesOf (ending k) (cond t 0 5) }
+
+    go : (t : Bool) → isRunning (y .ram .journal) ≡ t
+        → Settled (x .charts) (cond t (answeredWith 0 v (worldOfCore y) (u t)) (answeredWith 5 (pos 0) (cleared (y .ram .journal .log) (y .charts)) (u t)))
     go true e = done refl
-    go false e = closed (ap (λ (cs : List ℕ). answered 5 (pos 0) (cleared (acted x k .ram .journal .log) cs)) (charts-cut x k e))
+    go false e = closed (ap₂ (λ (cs : List ℕ) (p : ℕ). answeredWith 5 (pos 0) (cleared (y .ram .journal .log) cs) (record { rows = u false .rows; pages = p }))
+        (charts-cut x k e) (no-page (ending k) 4))
 
 -- ── What a call promises ──────────────────────────────────────────────────────────────────────────────────────────────
 
@@ -171,14 +180,14 @@ module _ (w : World) (k : Call) where
       go r (accepts s) h five = settle r s h five
 
   pub power-failed : works (w .state) ≡ true → performed w k .answer .number ≡ 5
-      → performed w k ≡ answered 5 (pos 0) (cleared (performed w k .world .log) (w .charts))
+      → performed w k ≡ failedAfter (performed w k .writes .rows) (cleared (performed w k .world .log) (w .charts))
   power-failed = go (performed w k) ends
     where
-      settle : (r : Answered) → Settled (w .charts) r → r .answer .number ≡ 5 → r ≡ answered 5 (pos 0) (cleared (r .world .log) (w .charts))
+      settle : (r : Answered) → Settled (w .charts) r → r .answer .number ≡ 5 → r ≡ failedAfter (r .writes .rows) (cleared (r .world .log) (w .charts))
       settle r (done e) h = absurd (omega arith)
       settle r (closed e) h = e
 
-      go : (r : Answered) → Ends w k r → works (w .state) ≡ true → r .answer .number ≡ 5 → r ≡ answered 5 (pos 0) (cleared (r .world .log) (w .charts))
+      go : (r : Answered) → Ends w k r → works (w .state) ≡ true → r .answer .number ≡ 5 → r ≡ failedAfter (r .writes .rows) (cleared (r .world .log) (w .charts))
       go r (refuses n m other e) t h = absurd (other t (sym (ap (λ (q : Answered). q .answer .number) e) ∙ h))
       go r (accepts s) t h = settle r s h
 

@@ -4,6 +4,7 @@ use Prim.Native.Nat.{ℕ}
 use mathlib.Core.Path.{_≡_, refl, ap, ap₂, _∙_}
 use mathlib.Core.Bool.{Bool, true, false, cond}
 use mathlib.Core.List.{List}
+use lib.ListN.{length}
 use lib.IntN.{ℤ, pos}
 use Rattle.book.specs.Rows.{Row}
 use Rattle.book.specs.Scopes.{Scope}
@@ -19,7 +20,8 @@ use Rattle.tables_model.specs.Meaning.{tablesOf, scopeTable}
 use Rattle.tables_model.specs.Lookup.{indexOf}
 use Rattle.tables_model.proofs.EntriesBack.{entries-back}
 use Rattle.state.specs.World.{World, stateOf, tableOf, copyOf, worldOf, cleared}
-use Rattle.state.specs.Contracts.{Answered, answered}
+use Rattle.state.specs.Contracts.{Answered, answeredWith}
+use Rattle.book.specs.Writes.{Writes}
 use Rattle.journal.specs.Journal.{Journal}
 use Rattle.journal.specs.Meaning.{controlOf, journalOf}
 use Rattle.wal.specs.Writing.{Ram, isRunning}
@@ -76,6 +78,7 @@ module _ (cells : ℕ → ℤ) (charts : List ℕ) where
 pub record Reaches (cells : ℕ → ℤ) (b : Book) (given done : List ℕ) (y : Core) : Type 0 where
   pub runs : isRunning (y .ram .journal) ≡ b .isOpen
   pub log : y .ram .journal .log ≡ logBytes (b .stored)
+  pub stored : y .ram .journal .control .stored ≡ length (b .stored)
   pub opened : b .isOpen ≡ true → y ≡ coreFor cells b done
   pub cut : b .isOpen ≡ false → y .charts ≡ given
 
@@ -83,10 +86,11 @@ pub record Reaches (cells : ℕ → ℤ) (b : Book) (given done : List ℕ) (y :
 pub reaches : (cells : ℕ → ℤ) (b : Book) (charts : List ℕ) (y : Core) → Stands cells b (y .ram) → y .charts ≡ charts
     → (b .isOpen ≡ true → _≡_ {A = Index} (record { tables = y .tables; scopes = y .scopes }) (indexOf (ledgerOf b)))
     → Reaches cells b charts charts y
-unfolding journalOf
+unfolding journalOf controlOf
 reaches cells b charts y st same tables = record {
   runs = ap isRunning (st .journal) ∙ running b;
   log = ap (λ (j : Journal). j .log) (st .journal);
+  stored = ap (λ (j : Journal). j .control .stored) (st .journal);
   opened = λ o.
       ap₂ (λ (j : Journal) (bs : List ℕ). record { ram = record { journal = j; copy = bs }; charts = y .charts; tables = y .tables; scopes = y .scopes })
       (st .journal) (st .copy o) ∙
@@ -95,19 +99,20 @@ reaches cells b charts y st same tables = record {
 }
 
 -- what a call gives back and leaves, by the book after it
-abbrev pub settledFor : (ℕ → ℤ) → Book → List ℕ → List ℕ → ℤ → Answered
-settledFor cells b given done v = record { answer = ended v b .answer; world = worldOf cells b (cond (b .isOpen) done given) }
+abbrev pub settledFor : (ℕ → ℤ) → Book → List ℕ → List ℕ → ℤ → Writes → Answered
+settledFor cells b given done v u = record { answer = ended v b .answer; world = worldOf cells b (cond (b .isOpen) done given); writes = u }
 
-pub settled-is : (cells : ℕ → ℤ) (b : Book) → Sound b → (given done : List ℕ) (y : Core) (v z : ℤ) → Reaches cells b given done y
-    → (b .isOpen ≡ true → v ≡ z) → settled y v ≡ settledFor cells b given done z
+pub settled-is : (cells : ℕ → ℤ) (b : Book) → Sound b → (given done : List ℕ) (y : Core) (v z : ℤ) (u : Writes) → Reaches cells b given done y
+    → (b .isOpen ≡ true → v ≡ z) → settled y v u ≡ settledFor cells b given done z u
 unfolding settled
-settled-is cells b s given done y v z r value =
-    ap (λ (t : Bool). cond t (answered 0 v (worldOfCore y)) (answered 5 (pos 0) (cleared (y .ram .journal .log) (y .charts)))) (r .runs) ∙ go (b .isOpen) refl
+settled-is cells b s given done y v z u r value =
+    ap (λ (t : Bool). cond t (answeredWith 0 v (worldOfCore y) u) (answeredWith 5 (pos 0) (cleared (y .ram .journal .log) (y .charts)) u)) (r .runs) ∙
+    go (b .isOpen) refl
   where
     go : (t : Bool) → b .isOpen ≡ t
-        → cond t (answered 0 v (worldOfCore y)) (answered 5 (pos 0) (cleared (y .ram .journal .log) (y .charts)))
-        ≡ record { answer = cond t (record { answer = answer 0 z; book = b }) (refused 5 b) .answer; world = worldOf cells b (cond t done given) }
-    go true o = ap₂ (λ (u : ℤ) (w : World). answered 0 u w) (value o) (ap worldOfCore (r .opened o) ∙ world-in cells done b o)
+        → cond t (answeredWith 0 v (worldOfCore y) u) (answeredWith 5 (pos 0) (cleared (y .ram .journal .log) (y .charts)) u)
+        ≡ record { answer = cond t (record { answer = answer 0 z; book = b }) (refused 5 b) .answer; world = worldOf cells b (cond t done given); writes = u }
+    go true o = ap₂ (λ (x : ℤ) (w : World). answeredWith 0 x w u) (value o) (ap worldOfCore (r .opened o) ∙ world-in cells done b o)
     go false o =
-        ap (answered 5 (pos 0))
+        ap (λ (w : World). answeredWith 5 (pos 0) w u)
         (ap₂ (λ (log charts : List ℕ). cleared log charts) (r .log) (r .cut o) ∙ world-cleared cells given b o)

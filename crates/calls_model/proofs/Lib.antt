@@ -4,6 +4,8 @@ pub mod RowCalls
 pub mod AbortCall
 pub mod StoringCalls
 pub mod AcceptedCalls
+pub mod CountersAfter
 pub mod AnyWorld
+pub mod AnyCounts
 pub mod ByTheBook
 pub mod Post

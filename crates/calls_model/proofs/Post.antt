@@ -4,6 +4,7 @@ use Rattle.state.specs.World.{World}
 use Rattle.state.specs.Contracts.{CallPost}
 use Rattle.calls_model.specs.Perform.{performed}
 use Rattle.calls_model.proofs.AnyWorld.{number-listed, wrong-lengths, idle-store, nothing-changes, power-failed}
+use Rattle.calls_model.proofs.AnyCounts.{any-counts}
 use Rattle.calls_model.proofs.ByTheBook.{by-the-book}
 
 pub performed-post : (w : World) (k : Call) → Typed k → CallPost k w (performed w k)
@@ -13,5 +14,8 @@ performed-post w k t = record {
   shut = idle-store w k;
   keeps = nothing-changes w k;
   cut = power-failed w k;
+  rows = any-counts w k .rows;
+  few = any-counts w k .few;
+  pages = any-counts w k .pages;
   is = by-the-book w k t;
 }

@@ -144,10 +144,11 @@ module _ (cells : ℕ → ℤ) (b : Book) (charts : List ℕ) (s : Sound b) (p :
 
   written-page : Reaches cells (storePage (storedUpTo b p)) charts (withPage p (pageBytes (pageAfter cells (rowsOf b) p)) charts)
       (flushedFrom (coreFor cells b charts) p (journalOf (storedUpTo b p)))
-  unfolding journalOf
+  unfolding journalOf controlOf
   written-page = record {
     runs = ap (λ (k : Control). isOpenPhase (k .phase)) (control-is page) ∙ running (storePage (storedUpTo b p));
     log = ap logBytes (sym (page-stored (storedUpTo b p)));
+    stored = ap (λ (k : Control). k .stored) (control-is page);
     opened = λ q.
         ap₂ (λ (j : Journal) (cs : List ℕ). record {
           ram = record { journal = j; copy = chartBytes (pageAfter cells (rowsOf b)) };

@@ -1,12 +1,13 @@
 -- A call from its checks to what it gives back and leaves, for whatever it is handed.
-use Prim.Native.Nat.{ℕ, zero, suc, _+_}
+use Prim.Native.Nat.{ℕ, zero, suc, _+_, _-_}
 use mathlib.Core.Path.{_≡_}
 use mathlib.Core.Bool.{Bool, cond, not}
 use mathlib.Core.List.{List, [], map}
 use lib.IntN.{ℤ, pos}
 use Rattle.book.specs.Limits.{logLength, chartsLength}
 use Rattle.book.specs.Scopes.{Scope as Entry}
-use Rattle.book.specs.Calls.{Call, returns}
+use Rattle.book.specs.Calls.{Call, ending, returns}
+use Rattle.book.specs.Writes.{Writes, Few, pagesOf}
 use Rattle.book.specs.Book.{_else_}
 use Rattle.tables_model.specs.declared.Counts.{Counts}
 use Rattle.tables_model.specs.declared.Tables.{Tables}
@@ -17,9 +18,9 @@ use Rattle.state.specs.declared.ram.State.{State}
 use Rattle.state.specs.declared.answers.Answer.{Answer}
 use Rattle.state.specs.declared.answers.Answer.the-variants as Answer
 use Rattle.state.specs.declared.ram.Phase.the-variants.{Open, Closed}
-use Rattle.state.specs.Answers.{refusal, caseOf, doneCase, HasCase}
+use Rattle.state.specs.Answers.{rowsAndPages, refusal, caseOf, doneCase, HasCase}
 use Rattle.state.specs.World.{World, rightLengths, isOpenPhase, inLimits, cleared}
-use Rattle.state.specs.Contracts.{Answered, answered}
+use Rattle.state.specs.Contracts.{Answered, answered, answeredWith}
 use Rattle.journal.specs.declared.Control.{Control}
 use Rattle.journal.specs.declared.Outcome.{Outcome}
 use Rattle.journal.specs.Outcomes.{stateAfter, outcome, Bounded, Zeroed}
@@ -60,12 +61,23 @@ worldOfCore x = record {
   scopes = map scopeOf (x .scopes);
 }
 
--- 01, "Power": an acceptedBy call that closed the journal answers 5, and RAM is cleared
-unfoldable pub settled : Core → ℤ → Answered
-settled x v = cond (isRunning (x .ram .journal)) (answered 0 v (worldOfCore x)) (answered 5 (pos 0) (cleared (x .ram .journal .log) (x .charts)))
+-- 01, "Power": an accepted call that closed the journal answers 5, and RAM is cleared
+unfoldable pub settled : Core → ℤ → Writes → Answered
+settled x v u = cond (isRunning (x .ram .journal)) (answeredWith 0 v (worldOfCore x) u) (answeredWith 5 (pos 0) (cleared (x .ram .journal .log) (x .charts)) u)
+
+-- the stored writes of an accepted call, by what it was given and what it left: rows that landed stay counted where the journal closed
+unfoldable pub writesBy : Core → Core → Call → Writes
+writesBy x y k = record {
+  rows = y .ram .journal .control .stored - x .ram .journal .control .stored;
+  pages = pagesOf (ending k) (cond (isRunning (y .ram .journal)) 0 5);
+}
+
+-- a call that no check refuses
+abbrev pub acceptedBy : Core → Call → Answered
+acceptedBy x k = let y : Core = acted x k in settled y (valueBy x y k) (writesBy x y k)
 
 abbrev pub decided : World → Call → ℕ → Answered
-decided w k zero = let x : Core = coreOf w in let y : Core = acted x k in settled y (valueBy x y k)
+decided w k zero = acceptedBy (coreOf w) k
 decided w k (suc n) = answered (suc n) (pos 0) w
 
 -- every check but that of the lengths, in 01's order
@@ -82,10 +94,6 @@ performed w k = decided w k (numberOf w k)
 
 -- ── What the functions ask and leave ──────────────────────────────────────────────────────────────────────────────────
 
--- a call that no check refuses
-abbrev pub acceptedBy : Core → Call → Answered
-acceptedBy x k = let y : Core = acted x k in settled y (valueBy x y k)
-
 -- what such a call comes to on the lent arrays
 pub record Accepted (x : Core) (k : Call) (r : Outcome) (log charts copy tail visits flat : List ℕ) : Type 0 where
   pub is : outcome r log charts copy tail visits flat ≡ acceptedBy x k
@@ -93,6 +101,7 @@ pub record Accepted (x : Core) (k : Call) (r : Outcome) (log charts copy tail vi
   -- the power failed: every number of RAM is 0
   pub zero : caseOf (r .answer) ≡ refusal → Zeroed r copy tail visits flat
   pub bounded : Bounded (r .control) (r .counts)
+  pub few : Few (rowsAndPages (r .writes))
 
 -- the lent bytes have their lengths
 pub record LentLengths (log charts copy : ℕ) : Type 0 where
@@ -105,17 +114,18 @@ pub record Flat (visits scopes : ℕ) : Type 0 where
   pub visits-long : visits ≡ visitsLength
   pub scopes-long : scopes ≡ flatLength
 
--- the power held in an acceptedBy call: it leaves what its work left
-pub record Held (c : Control) (t : Counts) (a : Answer) (copy tail visits flat : List ℕ) (r : Outcome) (copy′ tail′ visits′ flat′ : List ℕ) : Type 0 where
+-- the power held in an accepted call: it leaves what its work left
+pub record Held (c : Control) (t : Counts) (a : Answer) (rows pages : ℕ) (copy tail visits flat : List ℕ) (r : Outcome) (copy′ tail′ visits′ flat′ : List ℕ) : Type 0 where
   pub running : c .phase ≡ Open
-  pub is : r ≡ record { answer = a; control = c; counts = t }
+  pub is : r ≡ record { answer = a; control = c; counts = t; writes = record { rows = rows; pages = pages } }
   pub copy-same : copy′ ≡ copy
   pub tail-same : tail′ ≡ tail
   pub visits-same : visits′ ≡ visits
   pub flat-same : flat′ ≡ flat
 
 -- it failed: every number of RAM is 0
-pub record Failed (c : Control) (r : Outcome) (copy tail visits flat : List ℕ) : Type 0 where
+pub record Failed (c : Control) (rows : ℕ) (r : Outcome) (copy tail visits flat : List ℕ) : Type 0 where
   pub stopped : c .phase ≡ Closed
   pub answer : r .answer ≡ Answer.Closed
+  pub writes : r .writes ≡ record { rows = rows; pages = 0 }
   pub zero : Zeroed r copy tail visits flat

@@ -33,7 +33,7 @@ fit log charts copy n e =
 
 -- nothing is changed
 abbrev pub wrongLength : World → Returned
-wrongLength w = returned (record { state = w .state; answer = WrongLength }) (w .log) (w .charts) (w .copy) (w .scopes)
+wrongLength w = returned (record { state = w .state; answer = WrongLength; writes = record { rows = 0; pages = 0 } }) (w .log) (w .charts) (w .copy) (w .scopes)
 
 module _ (P : World → Returned → Type 0) (s : State) (log charts copy : List ℕ) (n : ℕ) (t : List Scope) (long : length t ≡ scopeLimit) where
   -- a table of n entries is lent

@@ -14,6 +14,7 @@ use rows::limits::SCOPE_LIMIT;
 use rows::limits::TAIL_LENGTH;
 use state::answers::Answer;
 use state::answers::Result;
+use state::answers::no_writes;
 use state::ram::State;
 use tables_model::Scope;
 
@@ -45,14 +46,16 @@ pub fn table_of(o: Out) -> [Scope; SCOPE_LIMIT]
     t
 }
 
-// This answer, state and table.
+// This answer, state and table; nothing was stored.
 pub(crate) fn out_with(answer: Answer, state: State, table: [Scope; SCOPE_LIMIT]) -> Out
-    ensures { λ r. ⌜ r ≡ record { result = record { state = state; answer = answer }; table = table } ⌝ }
+    ensures { λ r. ⌜ r ≡ record { result = record { state = state; answer = answer; writes = record { rows = 0; pages = 0 } }; table = table } ⌝ }
 {
+    let none = no_writes();
     Out {
         result: Result {
             state: state,
             answer: answer,
+            writes: none,
         },
         table: table,
     }
@@ -62,12 +65,20 @@ pub(crate) fn out_with(answer: Answer, state: State, table: [Scope; SCOPE_LIMIT]
 pub(crate) fn out_after(o: Outcome, visits: &[u16], tail: [u8; TAIL_LENGTH], flat: &[u16]) -> Out
     requires { ⌜ Flat (length (now visits)) (length (now flat)) ⌝ }
     ensures { λ r. ⌜ r ≡ record {
-      result = record { state = stateAfter (o .control) (tablesIn (o .counts) (now (visits .entry))) tail; answer = o .answer };
+      result = record { state = stateAfter (o .control) (tablesIn (o .counts) (now (visits .entry))) tail; answer = o .answer; writes = o .writes };
       table = map scopeOf (entries (now (flat .entry)));
     } ⌝ }
 {
     let state = state_after(o, visits, tail);
     let table = table_from(flat);
     let answer = o.answer;
-    out_with(answer, state, table)
+    let writes = o.writes;
+    Out {
+        result: Result {
+            state: state,
+            answer: answer,
+            writes: writes,
+        },
+        table: table,
+    }
 }

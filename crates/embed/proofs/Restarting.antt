@@ -8,12 +8,13 @@ use mathlib.Core.List.{List}
 use lib.IntN.{ℤ, pos}
 use lib.ListN.{length}
 use lib.Dec.{eqb, ltb}
+use Rattle.book.specs.Writes.{noWrites}
 use Rattle.book.specs.Limits.{cellLimit, pageLimit}
 use Rattle.book.specs.Book as book
 use Rattle.book.proofs.AnyCharts.{AreBytes}
 use Rattle.state.specs.declared.answers.Answer.{Answer}
 use Rattle.state.specs.declared.ram.Fuse.{Fuse}
-use Rattle.state.specs.Answers.{numberAndValue}
+use Rattle.state.specs.Answers.{numberAndValue, rowsAndPages}
 use Rattle.state.specs.World.{rightLengths, allowance, fuseOfNumber, cleared}
 use Rattle.state.specs.Contracts.{Answered, answered, badCell}
 use Rattle.state.proofs.Cases.{refusal-case}
@@ -30,7 +31,7 @@ use Rattle.recovery_model.proofs.Formats.{format-done, format-refused}
 use Rattle.recovery_model.proofs.Post.{opens-by}
 use Rattle.embed_model.specs.Arrays.{Arrays, arrays, worldIn, RamLengths, Zero}
 use Rattle.embed_model.specs.Head.{countsBy, headOf}
-use Rattle.embed_model.specs.Packed.{answerIn}
+use Rattle.embed_model.specs.Packed.{answerIn, writesIn}
 use Rattle.embed_model.specs.Called.{answeredIn, FormatsOfC, OpensOfC}
 use Rattle.embed_model.proofs.Arrays.{control-back, zero-cleared, outcome-is, zeroed}
 
@@ -74,7 +75,7 @@ module _ (values : List ℤ) (x : Arrays) (right : rightLengths (worldIn x) ≡ 
   abbrev left : Arrays
   left = arrays (x .head) (x .visits) (x .scopes) (x .tail) (x .copy) log charts
 
-  pub refused-format : RamLengths x → (n : ℕ) → answerIn n ≡ numberAndValue a → numberAndValue a .number ≢ 0 → FormatsOfC values x n left
+  pub refused-format : RamLengths x → (n : ℕ) → (answerIn n ≡ numberAndValue a) × (writesIn n ≡ noWrites) → numberAndValue a .number ≢ 0 → FormatsOfC values x n left
   unfolding worldIn
   refused-format long n says ne =
       let u = unchanged values (x .log) (x .charts) (λ z. ne (ap (λ (f : Formatted). f .answer .number) is ∙ z)) in
@@ -82,23 +83,24 @@ module _ (values : List ℤ) (x : Arrays) (right : rightLengths (worldIn x) ≡ 
       let c : charts ≡ x .charts = ap (λ (f : Formatted). f .charts) is ∙ u .1 in
       let same : left ≡ x = λ i. arrays (x .head) (x .visits) (x .scopes) (x .tail) (x .copy) (l i) (c i) in
       record {
-        does = record { is = rw says (sym (format-refused values (worldIn x) right a log charts formatted ne)) };
+        does = record { is = rw (says .0, says .1) (sym (format-refused values (worldIn x) right a log charts formatted ne)) };
         keeps = λ q. same;
-        clears = λ z. absurd (ne (sym (ap (λ (b : book.Answer). b .number) says) ∙ z));
+        clears = λ z. absurd (ne (sym (ap (λ (b : book.Answer). b .number) (says .0)) ∙ z));
         sized = subst RamLengths (sym same) long;
       }
 
-  module _ (zero : numberAndValue a .number ≡ 0) (r : Outcome) (answers : r .answer ≡ a) (head visits scopes tail copy : List ℕ)
+  module _ (zero : numberAndValue a .number ≡ 0) (r : Outcome) (answers : r .answer ≡ a) (stored : r .writes ≡ record { rows = 0; pages = 0 }) (head visits scopes tail copy : List ℕ)
       (cleared : Zeroed r copy tail visits scopes) (written : head ≡ headOf (r .control) (r .counts)) where
     abbrev leaves : Arrays
     leaves = arrays head visits scopes tail copy log charts
 
-    pub done-format : (n : ℕ) → answerIn n ≡ numberAndValue (r .answer) → FormatsOfC values x n leaves
+    pub done-format : (n : ℕ) → (answerIn n ≡ numberAndValue (r .answer)) × (writesIn n ≡ rowsAndPages (r .writes)) → FormatsOfC values x n leaves
     done-format n says =
         let z = zeroed r head visits scopes tail copy log charts cleared written in
-        let e = says ∙ ap numberAndValue answers in
+        let e = says .0 ∙ ap numberAndValue answers in
+        let none : writesIn n ≡ noWrites = says .1 ∙ ap rowsAndPages stored in
         record {
-          does = record { is = rw (e, zero-cleared leaves z) (sym (format-done values (worldIn x) right a log charts formatted zero)) };
+          does = record { is = rw (e, none, zero-cleared leaves z) (sym (format-done values (worldIn x) right a log charts formatted zero)) };
           keeps = λ q. absurd (q (ap (λ (b : book.Answer). b .number) e ∙ zero));
           clears = λ q. z;
           sized = zero-long leaves z;
@@ -137,13 +139,13 @@ module _ (fuse : ℕ) (f : Fuse) (meant : allowance f ≡ fuseOfNumber fuse) (x 
   abbrev opened : Arrays
   opened = arrays head visits scopes tail copy log (x .charts)
 
-  pub opening : RamLengths opened → (n : ℕ) → answerIn n ≡ numberAndValue (r .answer) → OpensOfC fuse x n opened
+  pub opening : RamLengths opened → (n : ℕ) → (answerIn n ≡ numberAndValue (r .answer)) × (writesIn n ≡ rowsAndPages (r .writes)) → OpensOfC fuse x n opened
   unfolding opensBy worldIn
   opening long n says =
       let given : answeredIn n opened ≡ outcome r log (x .charts) copy tail visits scopes =
-      outcome-is r head visits scopes tail copy log (x .charts) n says (rw written (control-back (r .control) (r .counts))) counted in
+      outcome-is r head visits scopes tail copy log (x .charts) n (says .0) (says .1) (rw written (control-back (r .control) (r .counts))) counted in
       let by : checkedBy f (x .log) (x .charts) (scanned (x .log) noIndex) ≡ opensBy f (worldIn x) = rw right in
-      let number = ap (λ (b : book.Answer). b .number) says in
+      let number = ap (λ (b : book.Answer). b .number) (says .0) in
       record {
         does = record { is = rw (← meant) (given ∙ O .is ∙ by ∙ opens-by f (worldIn x) bytes) };
         keeps = λ one. absurd (never-one f (x .log) (x .charts) (scanned (x .log) noIndex) (sym (ap (λ (y : Answered). y .answer .number) (given ∙ O .is)) ∙ one));

@@ -2,12 +2,13 @@
 ghost use mathlib.Core.Path.{_≡_};
 ghost use Prim.Native.Nat.{_%_};
 ghost use lib.ListN.{length};
-ghost use Rattle.state.specs.Answers.{numberAndValue};
+ghost use Rattle.book.specs.Writes.{Few};
+ghost use Rattle.state.specs.Answers.{numberAndValue, rowsAndPages};
 ghost use Rattle.journal.specs.Outcomes.{Bounded};
 ghost use Rattle.embed_model.specs.Arrays.{headLength, isSet, phaseBy, fuseBy};
 ghost use Rattle.embed_model.specs.Head.{phaseNumber, kindNumber, leftNumber, controlBy, countsBy, headOf};
-ghost use Rattle.embed_model.specs.Packed.{answerIn};
-use crate::packed::packed;
+ghost use Rattle.embed_model.specs.Packed.{answerIn, writesIn};
+use crate::packed::packed_with;
 use journal::Control;
 use journal::Outcome;
 use state::ram::Fuse;
@@ -116,14 +117,15 @@ fn put_head(head: &mut [u32], c: Control, t: Counts)
     head[7] = t.used as u32;
 }
 
-// What a call came to is written into the head, and its answer given back.
+// What a call came to is written into the head, and its answer and counts given back.
 pub(crate) fn finish(head: &mut [u32], r: Outcome) -> u64
-    requires { ⌜ (length (now head) ≡ headLength) × Bounded (r .control) (r .counts) ⌝ }
-    ensures { λ n. ⌜ (answerIn n ≡ numberAndValue (r .answer)) × (now (head .exit) ≡ headOf (r .control) (r .counts)) × (countsBy (now (head .exit)) ≡ r .counts) ⌝ }
+    requires { ⌜ (length (now head) ≡ headLength) × Bounded (r .control) (r .counts) × Few (rowsAndPages (r .writes)) ⌝ }
+    ensures { λ n. ⌜ ((answerIn n ≡ numberAndValue (r .answer)) × (writesIn n ≡ rowsAndPages (r .writes))) × (now (head .exit) ≡ headOf (r .control) (r .counts)) × (countsBy (now (head .exit)) ≡ r .counts) ⌝ }
 {
     let c = r.control;
     let t = r.counts;
     let answer = r.answer;
+    let writes = r.writes;
     put_head(head, c, t);
-    packed(answer)
+    packed_with(answer, writes)
 }

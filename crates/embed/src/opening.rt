@@ -5,6 +5,7 @@ use crate::head::finish;
 use crate::packed::packed;
 use journal::lengths::stored_fit;
 use state::answers::Answer;
+use state::answers::no_writes;
 use state::answers::number_of;
 use state::ram::fuse_of_number;
 use wal::clear::clear_ram;
@@ -31,7 +32,8 @@ pub(crate) fn format(
     if number_of(answer) != 0 {
         return packed(answer);
     }
-    let r = clear_ram(copy, tail, visits, scopes, answer);
+    let none = no_writes();
+    let r = clear_ram(copy, tail, visits, scopes, answer, none);
     finish(head, r)
 }
 

@@ -18,13 +18,13 @@ use Rattle.state.specs.declared.ram.Fuse.the-variants.{Unlimited, Left}
 use Rattle.state.specs.World.{world, rightLengths, cleared}
 use Rattle.state.specs.declared.ram.Fuse.{Fuse}
 use Rattle.state.specs.declared.ram.Phase.{Phase}
-use Rattle.state.specs.Answers.{numberAndValue}
+use Rattle.state.specs.Answers.{numberAndValue, rowsAndPages}
 use Rattle.journal.specs.declared.Control.{Control}
 use Rattle.journal.specs.declared.Outcome.{Outcome}
 use Rattle.journal.specs.Outcomes.{stateAfter, outcome, Zeroed}
 use Rattle.embed_model.specs.Arrays.{Arrays, arrays, headLength, isSet, phaseBy, fuseBy, worldIn, RamLengths, Zero}
 use Rattle.embed_model.specs.Head.{controlBy, countsBy, phaseNumber, kindNumber, leftNumber, headOf}
-use Rattle.embed_model.specs.Packed.{answerIn}
+use Rattle.embed_model.specs.Packed.{answerIn, writesIn}
 use Rattle.embed_model.specs.Called.{answeredIn}
 
 -- the numbers of the head, each at its place
@@ -84,11 +84,11 @@ zero-cleared x z = rw (z .head, z .visits, z .scopes, z .tail, z .copy)
 
 module _ (r : Outcome) (head visits scopes tail copy log charts : List ℕ) where
   -- the head that a call writes says where the journal stands and what the counters are: then the arrays are its outcome
-  pub outcome-is : (n : ℕ) → answerIn n ≡ numberAndValue (r .answer) → controlBy head ≡ r .control → countsBy head ≡ r .counts
+  pub outcome-is : (n : ℕ) → answerIn n ≡ numberAndValue (r .answer) → writesIn n ≡ rowsAndPages (r .writes) → controlBy head ≡ r .control → countsBy head ≡ r .counts
       → answeredIn n (arrays head visits scopes tail copy log charts) ≡ outcome r log charts copy tail visits scopes
   unfolding worldIn
-  outcome-is n a c t =
-      λ i. record { answer = a i; world = world (stateAfter (c i) (tablesIn (t i) visits) tail) log charts copy (map scopeOf (entries scopes)) }
+  outcome-is n a u c t =
+      λ i. record { answer = a i; world = world (stateAfter (c i) (tablesIn (t i) visits) tail) log charts copy (map scopeOf (entries scopes)); writes = u i }
 
   -- and after a power failure they are zeros
   pub zeroed : Zeroed r copy tail visits scopes → head ≡ headOf (r .control) (r .counts) → Zero (arrays head visits scopes tail copy log charts)

@@ -8,11 +8,12 @@ use lib.ListN.{length, length-append}
 use lib.IntN.{ℤ, pos}
 use lib.Dec.{eqb}
 use borrow.Author.Tests.{eqb-true}
+use Rattle.book.specs.Writes.{openingWrites, callWrites}
 use Rattle.book.specs.Lists.{member}
 use Rattle.book.specs.Rules.{allowedLog}
 use Rattle.book.specs.Ledger.{ledger}
 use Rattle.book.specs.Cells.{applied}
-use Rattle.book.specs.Calls.{Call, Typed}
+use Rattle.book.specs.Calls.{Call, Typed, ending}
 use Rattle.book.specs.Power.{Book, Fuse, rowsOf}
 use Rattle.book.specs.Book.{closing, refusal, adds, through, value, answer, Outcome, refused, ended, reopened, reopen, call, opening}
 use Rattle.book.specs.Logs.{Sound}
@@ -24,10 +25,11 @@ use Rattle.book.proofs.Adds.{fine-adds}
 use Rattle.book.proofs.Numbers.{InBits}
 use Rattle.book.proofs.Marks.{abs-applied}
 use Rattle.book.proofs.Pages.{Bounded, abs-bits}
-use Rattle.book.proofs.Sound.{sound-inv, stored-allowed, Decided, refuses, accepts, decided}
+use Rattle.book.proofs.Sound.{sound-inv, stored-allowed, Decided, refuses, accepts, decided, sound-opening}
+use Rattle.book.proofs.Writes.{few-between, call-few, one-page}
 use Rattle.state.specs.Contracts.{numbers}
 use Rattle.embed_model.specs.EveryList.{Below}
-use Rattle.embed_model.proofs.Packed.{AnswerOfC}
+use Rattle.embed_model.proofs.Packed.{AnswerOfC, WritesOfC}
 
 -- ── Numbers ───────────────────────────────────────────────────────────────────────────────────────────────────────────
 
@@ -101,3 +103,18 @@ opening-fits b f s =
     let few = few-rows (b .stored ++ closing (ledger (b .stored))) (closed-allowed (b .stored) (stored-allowed b s)) in
     let m = length-append (b .stored) (closing (ledger (b .stored))) in
     ended-fits (pos (length (closing (ledger (b .stored))))) (reopened f (b .stored)) (omega arith)
+
+-- ── Counts ────────────────────────────────────────────────────────────────────────────────────────────────────────────
+
+pub opening-writes-fit : (b : Book) (f : Fuse) → Sound b → WritesOfC (openingWrites (b .stored) (opening b true f))
+opening-writes-fit b f s = record {
+  rows =
+      let few = few-between (b .stored) (opening b true f .book .stored) (stored-allowed (opening b true f .book) (sound-opening b true f s)) in omega arith;
+  pages = omega arith;
+}
+
+pub call-writes-fit : (cells : ℕ → ℤ) (b : Book) (k : Call) → Sound b → Typed k → WritesOfC (callWrites b k (call cells b true k))
+call-writes-fit cells b k s t = record {
+  rows = let few = call-few cells b true k s t in omega arith;
+  pages = omega (arith, one-page (ending k) (call cells b true k .answer .number));
+}

@@ -21,7 +21,7 @@ use Rattle.sessions.specs.Host.{eventOf, back, worldAfter, Contract}
 use Rattle.sessions.proofs.Held.{Held, step}
 use Rattle.sessions.proofs.Demand3.{held-formatted}
 use Rattle.embed_model.specs.Arrays.{Arrays, worldIn, RamLengths}
-use Rattle.embed_model.specs.Packed.{answerIn}
+use Rattle.embed_model.specs.Packed.{answerIn, writesIn}
 use Rattle.embed_model.specs.Called.{answeredIn}
 use Rattle.embed_model.specs.Host.{FormatMade, CallMade, SessionMade, StepMade, opens, calls, stepsMade, stepOf, afterCall, afterStep, HostOfC}
 use Rattle.embed_model.specs.EveryList.{Below, ArraysOfC, StepOfC, StepsOfC, EventOfC, EventsOfC, SessionsOfC, AnyFormatOfC, EveryListOfC}
@@ -168,7 +168,7 @@ formats-done values w right long good =
     (ap (λ (n : ℕ). ltb n cellLimit) good)
 
 pub any-format-of-c : AnyFormatOfC
-unfolding AnyFormatOfC answerIn
+unfolding AnyFormatOfC answerIn writesIn
 any-format-of-c values long good given lengths right =
     let log = logBytes [] in
     let charts = newCharts (cellsOf values) in (

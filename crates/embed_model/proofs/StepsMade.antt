@@ -30,20 +30,22 @@ use Rattle.state.proofs.Satisfiable.{met}
 use Rattle.sessions.specs.Host.{eventOf, callsFollow}
 use Rattle.sessions.proofs.Held.{Held, represents}
 use Rattle.embed_model.specs.Arrays.{Arrays, arrays, worldIn, RamLengths}
-use Rattle.embed_model.specs.Packed.{answerIn}
+use Rattle.embed_model.specs.Packed.{answerIn, writesIn}
 use Rattle.embed_model.specs.Called.{answeredIn, OpensOfC, CallsOfC}
 use Rattle.embed_model.specs.Host.{StepMade, opens, calls, stepOf, HostLends}
 use Rattle.embed_model.specs.Freedom.{AnyLengthsOfC}
 use Rattle.embed_model.specs.EveryList.{Below, ArraysOfC, FuseOfC, CallOfC, StepOfC, EventOfC}
 use Rattle.embed_model.proofs.Freedom.{any-lengths-of-c}
 use Rattle.embed_model.proofs.Refused.{open-refused, call-refused}
+use Rattle.book.specs.Writes.{Writes, noWrites, openingWrites, callWrites}
+use Rattle.book.proofs.Writes.{refused-writes}
 use Rattle.state.proofs.Works.{works-open}
 use Rattle.state.proofs.Decisions.{Ends, ends, ends-only, ends-open, ends-closed, Decides, shut, refuses, accepts, decides, refused-keeps}
 use Rattle.embed_model.proofs.Below.{below-charts}
 use Rattle.embed_model.proofs.BookArrays.{Encoded, encoded}
 use Rattle.embed_model.proofs.FuseFalls.{fuse-kept}
 use Rattle.embed_model.proofs.Packed.{PackedInto, packed, fuseNumber, fuse-back, fuse-small}
-use Rattle.embed_model.proofs.BookAnswers.{call-fits, opening-fits}
+use Rattle.embed_model.proofs.BookAnswers.{call-fits, opening-fits, opening-writes-fit, call-writes-fit}
 
 -- ── One step ──────────────────────────────────────────────────────────────────────────────────────────────────────────
 
@@ -127,6 +129,10 @@ one : answerIn 4294967296 ≡ answer 1 (pos 0)
 unfolding answerIn
 one = refl
 
+none : writesIn 4294967296 ≡ noWrites
+unfolding writesIn
+none = refl
+
 -- charts of a book are bytes
 charts-bytes : (cells : ℕ → ℤ) (rs : List Row) (charts : List ℕ) → Charts cells rs charts → Below 256 charts
 charts-bytes cells rs charts C = subst (Below 256) (sym (C .are)) (below-charts _)
@@ -162,8 +168,8 @@ module _ (cells : ℕ → ℤ) (small : Bounded 1000000 cells) (b : Book) (own :
         encoded cells (o .book) (worldIn own .charts) (sound-opening b true f sound) (fuse-kept cells b (Event.opens true f) g (h .fuse))
         (charts-bytes cells (o .book .stored) (worldIn own .charts) opened-charts)
 
-    opened-number : PackedInto (o .answer)
-    opened-number = packed (o .answer) (opening-fits b f sound)
+    opened-number : PackedInto (o .answer) (openingWrites (b .stored) o)
+    opened-number = packed (o .answer) (openingWrites (b .stored) o) (opening-fits b f sound) (opening-writes-fit b f sound)
 
     opened-ends : Ends o
     unfolding opening reopen
@@ -175,8 +181,8 @@ module _ (cells : ℕ → ℤ) (small : Bounded 1000000 cells) (b : Book) (own :
         let al = stored-allowed b sound in
         let good = charts-accepted cells 1000000 small (b .stored) al (omega arith) (worldIn own .charts) (h .held .charts) in
         let by-book = opens-book cells 1000000 small (b .stored) al (omega arith) f (worldIn own) right (h .held .log) (h .held .charts) good in
-        let packs : answeredIn (opened-number .number) (opened-arrays .arrays) ≡ byOpening cells (worldIn own .charts) o =
-        λ i. record { answer = opened-number .is i; world = opened-arrays .is i } in
+        let packs : answeredIn (opened-number .number) (opened-arrays .arrays) ≡ byOpening cells (b .stored) (worldIn own .charts) o =
+        λ i. record { answer = opened-number .is i; world = opened-arrays .is i; writes = opened-number .writes i } in
         record { is = packs ∙ sym (ap (λ (x : Fuse). opensWorld x (worldIn own)) (fuse-back f g) ∙ by-book) }
 
     opened-ensures : OpensOfC (fuseNumber f) own (opened-number .number) (opened-arrays .arrays)
@@ -199,9 +205,10 @@ module _ (cells : ℕ → ℤ) (small : Bounded 1000000 cells) (b : Book) (own :
     abbrev r : Outcome
     r = call cells b true k
 
-    number-of : PackedInto (r .answer)
+    number-of : PackedInto (r .answer) (callWrites b k r)
     unfolding byBook
-    number-of = packed (r .answer) (call-fits cells small b k sound (typed-call k t) (met cells b k (worldIn own) stands .table))
+    number-of = packed (r .answer) (callWrites b k r) (call-fits cells small b k sound (typed-call k t) (met cells b k (worldIn own) stands (typed-call k t) .table))
+        (call-writes-fit cells b k sound (typed-call k t))
 
     -- the book refuses it: the arrays are as they were
     call-keeps : (n : ℕ) → r ≡ refused (suc n) b → (b .isOpen ≡ true → suc n ≢ 5) → CallsOfC k own (number-of .number) own
@@ -209,9 +216,10 @@ module _ (cells : ℕ → ℤ) (small : Bounded 1000000 cells) (b : Book) (own :
         let is : answerIn (number-of .number) ≡ answer (suc n) (pos 0) = number-of .is ∙ ap (λ (o : Outcome). o .answer) e in
         let number = ap (λ (a : Answer). a .number) is in
         let same : byBook cells b k (worldIn own) ≡ answeredIn (number-of .number) own =
-        refused-keeps cells b k (worldIn own) n stands e ∙ ap (λ (a : Answer). record { answer = a; world = worldIn own }) (sym is) in
+        refused-keeps cells b k (worldIn own) n stands e ∙
+        ap₂ (λ (a : Answer) (u : Writes). record { answer = a; world = worldIn own; writes = u }) (sym is) (sym (number-of .writes ∙ ap (callWrites b k) e ∙ refused-writes b k n)) in
         record {
-          does = subst (CallPost k (worldIn own)) same (met cells b k (worldIn own) stands);
+          does = subst (CallPost k (worldIn own)) same (met cells b k (worldIn own) stands (typed-call k t));
           keeps = λ p q. refl;
           shut = λ p. refl;
           cut = λ o p. absurd (open-other (sym works-as ∙ o) (sym number ∙ p));
@@ -233,9 +241,9 @@ module _ (cells : ℕ → ℤ) (small : Bounded 1000000 cells) (b : Book) (own :
     call-makes o e =
         let number = ap (λ (a : Answer). a .number) (number-of .is) in
         let packs : byBook cells b k (worldIn own) ≡ answeredIn (number-of .number) (call-arrays .arrays) =
-        sym (λ i. record { answer = number-of .is i; world = call-arrays .is i }) in
+        sym (λ i. record { answer = number-of .is i; world = call-arrays .is i; writes = number-of .writes i }) in
         record {
-          does = subst (CallPost k (worldIn own)) packs (met cells b k (worldIn own) stands);
+          does = subst (CallPost k (worldIn own)) packs (met cells b k (worldIn own) stands (typed-call k t));
           keeps = λ z f. absurd (ends-only r e (λ q. z (number ∙ q)) (λ q. f (number ∙ q)));
           shut = λ p. clash _ (works-as ∙ o) p;
           cut = λ p f. call-arrays .zero (ends-closed r e (λ z. omega arith));
@@ -265,8 +273,8 @@ module _ (cells : ℕ → ℤ) (small : Bounded 1000000 cells) (b : Book) (own :
   made (Event.opens true f) t = made-opening f t
   made (Event.opens false f) t =
       step-open own [] false lends-empty 4294967296 (lent own []) (omega arith) (lends-empty .typed) f t
-      (open-refused (lent own []) (lends-empty .long) 4294967296 one (lends-empty .right) (fuseNumber f))
+      (open-refused (lent own []) (lends-empty .long) 4294967296 (one, none) (lends-empty .right) (fuseNumber f))
   made (Event.calls true k) t = made-call k t
   made (Event.calls false k) t =
       step-call own [] false lends-empty 4294967296 (lent own []) (omega arith) (lends-empty .typed) k t
-      (call-refused (lent own []) (lends-empty .long) 4294967296 one (lends-empty .right) k)
+      (call-refused (lent own []) (lends-empty .long) 4294967296 (one, none) (lends-empty .right) k)

@@ -11,11 +11,11 @@ use Rattle.book.specs.Book.{answer}
 use Rattle.state.specs.World.{isOpenPhase, works, fuseOfNumber}
 use Rattle.state.specs.Contracts.{Answered, FormatPost, OpenPost, CallPost}
 use Rattle.embed_model.specs.Arrays.{Arrays, worldIn, RamLengths, Zero}
-use Rattle.embed_model.specs.Packed.{answerIn}
+use Rattle.embed_model.specs.Packed.{answerIn, writesIn}
 
 -- what a call gave back and left
 abbrev pub answeredIn : ℕ → Arrays → Answered
-answeredIn r x = record { answer = answerIn r; world = worldIn x }
+answeredIn r x = record { answer = answerIn r; world = worldIn x; writes = writesIn r }
 
 -- `chart_format_on`, lent these values of the cells
 pub record FormatsOfC (values : List ℤ) (given : Arrays) (r : ℕ) (leaves : Arrays) : Type 0 where

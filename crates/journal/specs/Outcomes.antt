@@ -12,7 +12,7 @@ use Rattle.tables_model.specs.Visits.{tablesIn}
 use Rattle.state.specs.declared.ram.Fuse.the-variants.{Unlimited}
 use Rattle.state.specs.declared.ram.Phase.the-variants.{Closed}
 use Rattle.state.specs.declared.ram.State.{State}
-use Rattle.state.specs.Answers.{numberAndValue}
+use Rattle.state.specs.Answers.{numberAndValue, rowsAndPages}
 use Rattle.state.specs.World.{world, tailLength}
 use Rattle.state.specs.Contracts.{Answered}
 use Rattle.journal.specs.declared.Control.{Control}
@@ -22,11 +22,12 @@ use Rattle.journal.specs.declared.Outcome.{Outcome}
 abbrev pub stateAfter : Control → Tables → List ℕ → State
 stateAfter c t tail = record { phase = c .phase; fuse = c .fuse; stored = c .stored; waiting = c .waiting; tables = t; tail = tail }
 
--- the answer as 01 has it, and the world that the arrays are
+-- the answer as 01 has it, the world that the arrays are, and the counts
 abbrev pub outcome : Outcome → List ℕ → List ℕ → List ℕ → List ℕ → List ℕ → List ℕ → Answered
 outcome r log charts copy tail visits flat = record {
   answer = numberAndValue (r .answer);
   world = world (stateAfter (r .control) (tablesIn (r .counts) visits) tail) log charts copy (map scopeOf (entries flat));
+  writes = rowsAndPages (r .writes);
 }
 
 abbrev pub closedControl : Control

@@ -17,12 +17,16 @@ use ram::visits_of;
 use rows::limits::TAIL_LENGTH;
 use tables::layout::VISITS_LENGTH;
 
-// Format, open and call in one: what the code names, with those of the arguments that it takes.
+// Rows, then pages.
+const COUNTS: usize = 2;
+
+// Format, open and call in one: what the code names, with those of the arguments that it takes. The counts are those of this call.
 #[no_mangle]
 pub extern "C" fn public_call_on(
     head: &mut [u64; HEAD_LENGTH],
     visits: &mut [u16; VISITS_LENGTH],
     tail: &mut [u8; TAIL_LENGTH],
+    counts: &mut [u64; COUNTS],
     scopes: &mut [u16],
     copy: &mut [u8],
     log: &mut [u8],
@@ -43,6 +47,8 @@ pub extern "C" fn public_call_on(
     *head = head_of(left);
     *visits = visits_of(left);
     *tail = tail_of(left);
+    let stored = r.writes;
+    *counts = [stored.rows as u64, stored.pages as u64];
     let answer = r.answer;
     packed(answer)
 }

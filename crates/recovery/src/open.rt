@@ -20,12 +20,15 @@ use crate::pages::redo;
 use crate::scan::scan_log;
 use journal::Control;
 use journal::Outcome;
+use journal::landed::rows_between;
 use journal::writes::clear;
 use recovery_model::LogScan;
 use recovery_model::Reason;
 use rows::Lsn;
 use rows::limits::PAGE_LIMIT;
 use state::answers::Answer;
+use state::answers::Writes;
+use state::answers::no_writes;
 use state::ram::Fuse;
 use state::ram::Phase;
 use tables_model::Counts;
@@ -55,10 +58,15 @@ fn settle(
     ensures { λ r. ⌜ ((log charts : List ℕ) → OpenOutcome (settledOpening rows begun (ram c log (now (tail .entry)) (now (copy .entry))) charts)
         r log charts (now (copy .exit)) (now (tail .exit)) (now (visits .exit)) (now (scopes .exit))) ⌝ }
 {
+    let landed = rows_between(rows, c.stored);
+    let writes = Writes {
+        rows: landed,
+        pages: 0,
+    };
     let phase = c.phase;
     match phase {
         Phase::Closed => {
-            return clear_ram(copy, tail, visits, scopes, Answer::Closed);
+            return clear_ram(copy, tail, visits, scopes, Answer::Closed, writes);
         }
         Phase::Open => {}
     }
@@ -74,6 +82,7 @@ fn settle(
         answer: Answer::Wrote(n),
         control: c,
         counts: none,
+        writes: writes,
     }
 }
 
@@ -129,15 +138,23 @@ fn open_scanned(
     ensures { λ r. ⌜ OpenOutcome (checkedBy fuse (now (log .entry)) (now (charts .entry)) (found s (now (visits .entry)) (now (scopes .entry))))
         r (now (log .exit)) (now (charts .entry)) (now (copy .exit)) (now (tail .exit)) (now (visits .exit)) (now (scopes .exit)) ⌝ }
 {
+    let nothing = no_writes();
     let bad = s.bad;
     let reason = s.reason;
     if bad != 0 {
         let answer = bad_row(reason, Lsn(bad as u16));
-        return clear_ram(copy, tail, visits, scopes, answer);
+        return clear_ram(copy, tail, visits, scopes, answer, nothing);
     }
     let p = bad_page(log, s.rows, charts);
     if p < PAGE_LIMIT {
-        return clear_ram(copy, tail, visits, scopes, Answer::BadPage(p as u8));
+        return clear_ram(
+            copy,
+            tail,
+            visits,
+            scopes,
+            Answer::BadPage(p as u8),
+            nothing,
+        );
     }
     recover(fuse, s, log, charts, copy, tail, visits, scopes)
 }

@@ -15,6 +15,7 @@ use Rattle.book.specs.Pages.{chartBytes, pageAfter}
 use Rattle.state.specs.declared.answers.Answer.{Answer}
 use Rattle.state.specs.Answers.{numberAndValue}
 use Rattle.state.specs.World.{World, world, rightLengths, cleared}
+use Rattle.book.specs.Writes.{noWrites}
 use Rattle.state.specs.Contracts.{Answered, answered, badCell, cellsOf, formats}
 use Rattle.recovery_model.specs.Answering.{Formatted, formattedAs, formatBytes}
 
@@ -23,6 +24,7 @@ abbrev comesTo : World → Formatted → Answered
 comesTo w f = record {
   answer = f .answer;
   world = cond (eqb (f .answer .number) 0) (cleared (f .log) (f .charts)) (world (w .state) (f .log) (f .charts) (w .copy) (w .scopes));
+  writes = noWrites;
 }
 
 formats-by : (values : List ℤ) (w : World) → rightLengths w ≡ true → formats values w ≡ comesTo w (formatBytes values (w .log) (w .charts))
@@ -47,9 +49,9 @@ formats-by values w e = rw e (go (eqb (length values) cellLimit) (ltb (badCell v
 
 module _ (values : List ℤ) (w : World) (long : rightLengths w ≡ true) (r : Answer) (log charts : List ℕ)
     (is : formattedAs r log charts ≡ formatBytes values (w .log) (w .charts)) where
-  pub format-done : numberAndValue r .number ≡ 0 → formats values w ≡ record { answer = numberAndValue r; world = cleared log charts }
+  pub format-done : numberAndValue r .number ≡ 0 → formats values w ≡ record { answer = numberAndValue r; world = cleared log charts; writes = noWrites }
   format-done e = formats-by values w long ∙ rw (← is, eq-eqb _ _ e)
 
   pub format-refused : numberAndValue r .number ≢ 0
-      → formats values w ≡ record { answer = numberAndValue r; world = world (w .state) log charts (w .copy) (w .scopes) }
+      → formats values w ≡ record { answer = numberAndValue r; world = world (w .state) log charts (w .copy) (w .scopes); writes = noWrites }
   format-refused e = formats-by values w long ∙ rw (← is, ne-eqb _ _ e)

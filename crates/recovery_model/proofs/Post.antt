@@ -65,7 +65,7 @@ module _ (f : Fuse) (charts : List ℕ) (long : length charts ≡ chartsLength) 
         ap (λ (l : List Row). chartBytes (pageAfter cells l)) (append-nil rs)
 
     recovered-is : recoveredBy f (logBytes rs) charts (all-good rs)
-        ≡ openedWorld charts (recovered charts (reopen (allowance f) rs))
+        ≡ openedWorld charts (recovered rs charts (reopen (allowance f) rs))
     unfolding cells
     recovered-is =
         settled-is cells (allowance f) rs al charts (backward f (length rs) (indexOf (ledger rs)) (logBytes rs) (redoCharts (logBytes rs) (length rs) charts))
@@ -83,7 +83,7 @@ module _ (f : Fuse) (charts : List ℕ) (long : length charts ≡ chartsLength) 
     where
       go : (t : Bool) → ltb (badPage rs charts) 32 ≡ t
           → cond t (answered 4 (pos (badPage rs charts)) (cleared (logBytes rs) charts)) (recoveredBy f (logBytes rs) charts (all-good rs))
-          ≡ openedWorld charts (cond t (rejected 4 (badPage rs charts) (logBytes rs)) (recovered charts (reopen (allowance f) rs)))
+          ≡ openedWorld charts (cond t (rejected 4 (badPage rs charts) (logBytes rs)) (recovered rs charts (reopen (allowance f) rs)))
       go true e = refl
       go false e = recovered-is rs al (let k = ltb-false (badPage rs charts) 32 e in omega (arith, first-within 32 0 (λ p. isPage rs p (pageAt charts p))))
 

@@ -26,9 +26,10 @@ use Rattle.book.proofs.TakeBack.{take-back, closed-none}
 use Rattle.book.proofs.Steps.{bookOf}
 use Rattle.book.proofs.Force.{reopened-empty}
 use Rattle.book.proofs.Openings.{reopened-stored}
+use Rattle.book.specs.Writes.{rowsBetween}
 use Rattle.book.proofs.OpenBytes.{byTheBook}
 use Rattle.state.specs.World.{fuseOf, stateOf, tableOf}
-use Rattle.state.specs.Contracts.{Answered, answered, openedWorld}
+use Rattle.state.specs.Contracts.{Answered, answeredWith, openedWorld}
 use Rattle.state.specs.declared.ram.Phase.the-variants.{Open}
 use Rattle.tables_model.specs.declared.Scope as lent
 use Rattle.tables_model.specs.declared.Tables.{Tables}
@@ -61,9 +62,9 @@ module _ (l : Ledger) (none : l .active ≡ []) where
 
 -- ── The answer and the world ──────────────────────────────────────────────────────────────────────────────────────────
 
--- a ready opening that leaves this book, by what has to be shown of it
-abbrev ready : Book → List ℕ → ℕ → Tables → List ℕ → List lent.Scope → Answered
-ready b charts written tables copy scopes = answered 0 (pos written) (record {
+-- a ready opening of these rows that leaves this book, by what has to be shown of it
+abbrev ready : List Row → Book → List ℕ → ℕ → Tables → List ℕ → List lent.Scope → Answered
+ready rs b charts written tables copy scopes = answeredWith 0 (pos written) (record {
   state = record {
     phase = Open;
     fuse = fuseOf (b .fuse);
@@ -76,14 +77,14 @@ ready b charts written tables copy scopes = answered 0 (pos written) (record {
   charts = charts;
   copy = copy;
   scopes = scopes;
-})
+}) (record { rows = rowsBetween rs (b .stored); pages = 0 })
 
 module _ (cells : ℕ → ℤ) (f : Allowance) (rs : List Row) (al : allowedLog rs ≡ true) (charts : List ℕ) where
   begun-is : ledger (rs ++ closing (ledger rs)) .begun ≡ ledger rs .begun
   begun-is = ap (λ (l : Ledger). l .begun) (ledger-append rs (closing (ledger rs))) ∙ take-back everyone (ledger rs) (inv-log rs al) .begun
 
   pub settled-is : (m : Ram) → Stands cells (reopened f rs) m
-      → settledOpening (length rs) (tablesOf (ledger rs) .begun) m charts ≡ openedWorld charts (byTheBook cells (reopen f rs))
+      → settledOpening (length rs) (tablesOf (ledger rs) .begun) m charts ≡ openedWorld charts (byTheBook cells rs (reopen f rs))
   unfolding settledOpening reopen tablesOf journalOf controlOf stateOf tableOf
   settled-is m st =
       ap (λ (j : Journal). settledOpening (length rs) (tablesOf (ledger rs) .begun) (record { journal = j; copy = m .copy }) charts) (st .journal) ∙
@@ -95,15 +96,15 @@ module _ (cells : ℕ → ℤ) (f : Allowance) (rs : List Row) (al : allowedLog 
       go : (s w : List Row) (g : Allowance) (o : Bool) → w ≡ [] → (o ≡ true → s ≡ rs ++ closing (ledger rs))
           → (o ≡ true → m .copy ≡ chartBytes (pageAfter cells (s ++ w)))
           → settledOpening (length rs) (tablesOf (ledger rs) .begun) (record { journal = journalOf (bookOf s w g o); copy = m .copy }) charts
-          ≡ openedWorld charts (byTheBook cells (ended (pos (length (closing (ledger rs)))) (bookOf s w g o)))
+          ≡ openedWorld charts (byTheBook cells rs (ended (pos (length (closing (ledger rs)))) (bookOf s w g o)))
       go s w g true e rows copy =
           let all : s ++ w ≡ rs ++ closing (ledger rs) = ap (λ (l : List Row). s ++ l) e ∙ append-nil s ∙ rows refl in
           let none : ledger (s ++ w) .active ≡ [] = ap (λ (l : List Row). ledger l .active) all ∙ closed-none rs al in
           let begun : ledger rs .begun ≡ ledger (s ++ w) .begun = sym (ap (λ (l : List Row). ledger l .begun) all ∙ begun-is) in
           let n = length-append s w in let k = ap length all in let c = length-append rs (closing (ledger rs)) in
           let count : length s + length w - length rs ≡ length (closing (ledger rs)) = omega arith in
-          ap₂ (λ (n : ℕ) (t : Tables). ready (bookOf s w g true) charts n t (m .copy) (replicate scopeLimit (scopeOf unused)))
+          ap₂ (λ (n : ℕ) (t : Tables). ready rs (bookOf s w g true) charts n t (m .copy) (replicate scopeLimit (scopeOf unused)))
           count (ap noneActive begun ∙ sym (none-tables (ledger (s ++ w)) none)) ∙
-          ap₂ (ready (bookOf s w g true) charts (length (closing (ledger rs))) (tablesOf (ledger (s ++ w))))
+          ap₂ (ready rs (bookOf s w g true) charts (length (closing (ledger rs))) (tablesOf (ledger (s ++ w))))
           (copy refl) (sym (none-scopes (ledger (s ++ w)) none))
       go s w g false e rows copy = refl

@@ -8,10 +8,11 @@ use lib.IntN.{ℤ, pos}
 use lib.Dec.{eqb, ltb}
 use Rattle.book.specs.Limits.{cellLimit}
 use Rattle.book.specs.Book as book
+use Rattle.book.specs.Writes.{Few}
 use Rattle.book.specs.LogBytes.{logBytes}
 use Rattle.book.specs.Pages.{chartBytes, pageAfter}
 use Rattle.state.specs.declared.answers.Answer.{Answer}
-use Rattle.state.specs.Answers.{numberAndValue, written, refusal, caseOf, HasCase}
+use Rattle.state.specs.Answers.{numberAndValue, rowsAndPages, written, refusal, caseOf, HasCase}
 use Rattle.state.specs.Contracts.{Answered, badCell, cellsOf}
 use Rattle.journal.specs.declared.Outcome.{Outcome}
 use Rattle.journal.specs.Outcomes.{outcome, Zeroed, Bounded}
@@ -44,3 +45,4 @@ pub record OpenOutcome (x : Answered) (r : Outcome) (log charts copy tail visits
   pub case : HasCase written (r .answer)
   pub refused : caseOf (r .answer) ≡ refusal → Zeroed r copy tail visits scopes
   pub bounded : Bounded (r .control) (r .counts)
+  pub few : Few (rowsAndPages (r .writes))

@@ -10,8 +10,9 @@ use Rattle.book.specs.Limits.{activeLimit, scopeLimit, pageLimit}
 use Rattle.book.specs.Scopes.{unused}
 use Rattle.state.specs.declared.ram.Fuse.{Fuse}
 use Rattle.state.specs.World.{World, rightLengths, cleared}
-use Rattle.state.specs.Contracts.{Answered, answered}
+use Rattle.state.specs.Contracts.{Answered, answered, answeredWith}
 use Rattle.tables_model.specs.declared.Tables.{Tables}
+use Rattle.book.specs.Writes.{Writes}
 use Rattle.tables_model.specs.Rows.{Index}
 use Rattle.journal.specs.Journal.{Journal}
 use Rattle.wal.specs.Writing.{Ram, rowCount, isRunning}
@@ -31,8 +32,9 @@ noneActive begun = record { begun = begun; active = replicate activeLimit vacant
 unfoldable pub settledOpening : ℕ → ℕ → Ram → List ℕ → Answered
 settledOpening rows begun m charts =
     let j : Journal = m .journal in
+    let u : Writes = record { rows = j .control .stored - rows; pages = 0 } in
     cond (isRunning j)
-    (answered 0 (pos (rowCount j - rows)) (record {
+    (answeredWith 0 (pos (rowCount j - rows)) (record {
       state = record {
         phase = j .control .phase;
         fuse = j .control .fuse;
@@ -45,8 +47,8 @@ settledOpening rows begun m charts =
       charts = charts;
       copy = m .copy;
       scopes = replicate scopeLimit (scopeOf unused);
-    }))
-    (answered 5 (pos 0) (cleared (j .log) charts))
+    }) u)
+    (answeredWith 5 (pos 0) (cleared (j .log) charts) u)
 
 -- of a log that passed and charts that passed
 abbrev pub recoveredBy : Fuse → List ℕ → List ℕ → Scanned → Answered

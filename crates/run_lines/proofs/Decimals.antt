@@ -71,12 +71,14 @@ signed-length (pos n) h = omega (arith, decimal-length 9 n (omega (arith, h .sfi
 signed-length (negsuc n) h = omega (arith, decimal-length 9 (suc n) (omega (arith, h .sfits)))
 
 -- the lengths of a line's parts
-module _ (session call number : ℕ) (value : ℤ) where
-  pub line-parts : length (line session call (answer number value)) ≡
-      length (decimal session) + suc (length (decimal call)) + suc (length (decimal number)) + suc (suc (length (signedDecimal value)))
+module _ (session call number : ℕ) (value : ℤ) (rows pages : ℕ) where
+  pub line-parts : length (line session call (answer number value) (record { rows = rows; pages = pages })) ≡
+      length (decimal session) + suc (length (decimal call)) + suc (length (decimal number)) + suc (length (signedDecimal value)) +
+      suc (length (decimal rows)) + suc (suc (length (decimal pages)))
   unfolding line
   line-parts = simp length-append (omega arith)
 
-  pub line-length : session < 100000 → call < 100000 → number < 1000 → SFits w32 value → length (line session call (answer number value)) ≤ lineLength
-  line-length s c n v =
-      omega (arith, line-parts, decimal-length 4 session s, decimal-length 4 call c, decimal-length 2 number n, signed-length value v)
+  pub line-length : session < 100000 → call < 100000 → number < 1000 → SFits w32 value → rows < 10000 → pages < 10
+      → length (line session call (answer number value) (record { rows = rows; pages = pages })) ≤ lineLength
+  line-length s c n v r p =
+      omega (arith, line-parts, decimal-length 4 session s, decimal-length 4 call c, decimal-length 2 number n, signed-length value v, decimal-length 3 rows r, decimal-length 0 pages p)

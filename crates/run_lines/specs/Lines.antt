@@ -1,10 +1,11 @@
--- Document 01's output lines: session, call, refusal number or 0, value.
+-- Document 01's output lines: session, call, refusal number or 0, value; at the end document 02's counts (L1), rows and pages.
 use Prim.Native.Nat.{ℕ, zero, suc, _+_, _/_, _%_}
 use mathlib.Core.Bool.{cond}
 use mathlib.Core.List.{List, [], _∷_, _++_}
 use lib.IntN.{ℤ, pos, negsuc}
 use lib.Dec.{ltb}
 use Rattle.book.specs.Book.{Answer}
+use Rattle.book.specs.Writes.{Writes}
 
 -- the character of a digit
 abbrev pub digit : ℕ → ℕ
@@ -30,8 +31,10 @@ abbrev pub newline : ℕ
 newline = 10
 
 -- the line of a call (0 is the opening) of a session
-unfoldable pub line : ℕ → ℕ → Answer → List ℕ
-line session call a = decimal session ++ (space ∷ decimal call ++ (space ∷ decimal (a .number) ++ (space ∷ signedDecimal (a .value) ++ (newline ∷ []))))
+unfoldable pub line : ℕ → ℕ → Answer → Writes → List ℕ
+line session call a w =
+    decimal session ++ (space ∷ decimal call ++ (space ∷ decimal (a .number) ++ (space ∷ signedDecimal (a .value) ++
+    (space ∷ decimal (w .rows) ++ (space ∷ decimal (w .pages) ++ (newline ∷ []))))))
 
 -- the line `15`
 abbrev pub faultLine : List ℕ

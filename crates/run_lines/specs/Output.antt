@@ -4,13 +4,13 @@ use mathlib.Core.List.{List, _++_}
 use Prim.Native.Nat.{ℕ, _+_}
 use lib.ListN.{length, take, drop}
 
--- a line has at most so many bytes: sessions and calls have up to five digits, refusal numbers three, values ten and a sign
+-- a line has at most so many bytes: sessions and calls have up to five digits, refusal numbers three, values ten and a sign, rows four and pages one
 abbrev pub lineLength : ℕ
-lineLength = 28
+lineLength = 35
 
 -- room for the lines of any run file: at most 682, of one session with 681 calls
 abbrev pub outputLength : ℕ
-outputLength = 20480
+outputLength = 24576
 
 -- the output with this text from `at` on
 abbrev pub putText : List ℕ → ℕ → List ℕ → List ℕ

@@ -1,2 +1,2 @@
-// The output lines of a run: session, call, refusal number and value, as text in a lent buffer.
+// The output lines of a run: session, call, refusal number, value, rows and pages, as text in a lent buffer.
 pub mod line;

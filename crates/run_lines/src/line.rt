@@ -5,6 +5,7 @@ ghost use Prim.Native.Nat.{_+_, _≤_, _<_};
 ghost use lib.IntN.{natAbs};
 ghost use lib.ListN.{length};
 ghost use Rattle.book.specs.Book.{answer};
+ghost use Rattle.book.specs.Writes.{Few};
 ghost use Rattle.run_lines.specs.Lines.{digit as digitOf, decimal, signedDecimal, space, newline, line, faultLine};
 ghost use Rattle.run_lines.specs.Output.{lineLength, Written};
 
@@ -16,14 +17,18 @@ pub fn put_line(
     call: usize,
     number: u8,
     value: i32,
+    rows: usize,
+    pages: usize,
 ) -> usize
-    requires { ⌜ (at + lineLength ≤ length (now out)) × (session < 65536) × (call < 65536) ⌝ }
-    ensures { λ r. ⌜ Written (now (out .entry)) at (line session call (answer number value)) r (now (out .exit)) ⌝ }
+    requires { ⌜ (at + lineLength ≤ length (now out)) × (session < 65536) × (call < 65536) × Few (record { rows = rows; pages = pages }) ⌝ }
+    ensures { λ r. ⌜ Written (now (out .entry)) at (line session call (answer number value) (record { rows = rows; pages = pages })) r (now (out .exit)) ⌝ }
 {
     let a = put_decimal(out, at, session as u32);
     let b = put_next(out, a, call as u32);
     let c = put_next(out, b, number as u32);
-    put_last(out, c, value)
+    let d = put_value(out, c, value);
+    let e = put_next(out, d, rows as u32);
+    put_last(out, e, pages as u32)
 }
 
 // The line `15`.
@@ -46,13 +51,22 @@ fn put_next(out: &mut [u8], at: usize, n: u32) -> usize
     put_decimal(out, at + 1, n)
 }
 
-// The value after a space, and the end of the line.
-fn put_last(out: &mut [u8], at: usize, value: i32) -> usize
-    requires { ⌜ at + length (space ∷ signedDecimal value ++ (newline ∷ [])) ≤ length (now out) ⌝ }
-    ensures { λ r. ⌜ Written (now (out .entry)) at (space ∷ signedDecimal value ++ (newline ∷ [])) r (now (out .exit)) ⌝ }
+// The value after a space.
+fn put_value(out: &mut [u8], at: usize, value: i32) -> usize
+    requires { ⌜ at + length (space ∷ signedDecimal value) ≤ length (now out) ⌝ }
+    ensures { λ r. ⌜ Written (now (out .entry)) at (space ∷ signedDecimal value) r (now (out .exit)) ⌝ }
 {
     out[at] = b' ';
-    let end = put_signed(out, at + 1, value);
+    put_signed(out, at + 1, value)
+}
+
+// The last number, after a space, and the end of the line.
+fn put_last(out: &mut [u8], at: usize, n: u32) -> usize
+    requires { ⌜ at + length (space ∷ decimal n ++ (newline ∷ [])) ≤ length (now out) ⌝ }
+    ensures { λ r. ⌜ Written (now (out .entry)) at (space ∷ decimal n ++ (newline ∷ [])) r (now (out .exit)) ⌝ }
+{
+    out[at] = b' ';
+    let end = put_decimal(out, at + 1, n);
     out[end] = b'\n';
     end + 1
 }

@@ -7,7 +7,8 @@ use mathlib.Core.List.{List, [], _∷_, _++_, append-nil, append-assoc}
 use lib.ListN.{length, take, drop}
 use Rattle.book.specs.Power.{Book}
 use Rattle.state.specs.Contracts.{Answered}
-use Rattle.book.specs.Events.{Event, happens, answers, bookAfter}
+use Rattle.book.specs.Events.{Event, happens, bookAfter}
+use Rattle.book.specs.SessionWrites.{eventWrites}
 use Rattle.state.specs.World.{World, Represents}
 use Rattle.run_lines.specs.Lines.{line}
 use Rattle.runfile.specs.Runs.{linesFrom}
@@ -26,20 +27,20 @@ told-then {t = t} {t′ = t′} {out = out} {at = at} p q fits = record {
 }
 
 -- the line of the first answer, and those of the others
-pub lines-first : (b : Book) (e : Event) (es : List Event) (session call : ℕ) → linesFrom session call (answers zeros b (e ∷ es)) ≡
-    linesFrom session call (answers zeros b (e ∷ [])) ++ linesFrom session (suc call) (answers zeros (happens zeros b e .book) es)
+pub lines-first : (b : Book) (e : Event) (es : List Event) (session call : ℕ) → linesFrom session call b (e ∷ es) ≡
+    linesFrom session call b (e ∷ []) ++ linesFrom session (suc call) (happens zeros b e .book) es
 lines-first b e es session call =
-    ap (λ (l : List ℕ). l ++ linesFrom session (suc call) (answers zeros (happens zeros b e .book) es)) (sym (append-nil (line session call (happens zeros b e .answer))))
+    ap (λ (l : List ℕ). l ++ linesFrom session (suc call) (happens zeros b e .book) es) (sym (append-nil (line session call (happens zeros b e .answer) (eventWrites zeros b e))))
 
 -- one event whose line is written
 pub plays-one : (e : Event) (session call : ℕ) (given : World) (before : List ℕ) (at : ℕ) (after : List ℕ) (to : ℕ) (x : Answered)
-    → ((b : Book) → Represents zeros b given → Answers b e x) → Written before at (line session call (x .answer)) to after → to ≤ at + lineLength
+    → ((b : Book) → Represents zeros b given → Answers b e x) → Written before at (line session call (x .answer) (x .writes)) to after → to ≤ at + lineLength
     → Plays (e ∷ []) session call given (x .world) before at after to
 plays-one e session call given before at after to x answers written room = record {
   room = room;
   by = λ b r.
       let s = answers b r in
-      record { stands = s .stands; written = rw (append-nil, ← (s .answer)) written };
+      record { stands = s .stands; written = rw (append-nil, ← (s .answer), ← (s .writes)) written };
 }
 
 -- an event and then others
@@ -85,13 +86,13 @@ along-none text last b store out at r = record {
 pub along-more : {text text′ : Book → List ℕ} {last last′ : Book → Book} {whole : List ℕ} {end : Book} {store store′ : World} {before : List ℕ} {at : ℕ}
     {out out′ : List ℕ} {to to′ : ℕ} (es : List Event) (session call : ℕ) → Along text last whole end store before at out to
     → Plays es session call store store′ out to out′ to′ → to′ ≤ length before
-    → ((b : Book) → text b ≡ linesFrom session call (answers zeros b es) ++ text′ (bookAfter zeros b es)) → ((b : Book) → last b ≡ last′ (bookAfter zeros b es))
+    → ((b : Book) → text b ≡ linesFrom session call b es ++ text′ (bookAfter zeros b es)) → ((b : Book) → last b ≡ last′ (bookAfter zeros b es))
     → Along text′ last′ whole end store′ before at out′ to′
 along-more {text′ = text′} es session call a p fits texts lasts = record {
   book = bookAfter zeros (a .book) es;
-  written = a .written ++ linesFrom session call (answers zeros (a .book) es);
+  written = a .written ++ linesFrom session call (a .book) es;
   told = told-then (a .told) (p .by (a .book) (a .told .stands)) fits;
-  rest = append-assoc (a .written) (linesFrom session call (answers zeros (a .book) es)) (text′ (bookAfter zeros (a .book) es)) ∙ ap (λ (l : List ℕ). a .written ++ l) (sym (texts (a .book))) ∙ a .rest;
+  rest = append-assoc (a .written) (linesFrom session call (a .book) es) (text′ (bookAfter zeros (a .book) es)) ∙ ap (λ (l : List ℕ). a .written ++ l) (sym (texts (a .book))) ∙ a .rest;
   ends = sym (lasts (a .book)) ∙ a .ends;
 }
 

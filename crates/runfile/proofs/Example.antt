@@ -1,4 +1,6 @@
--- Document 01's whole example, with fuse 3 and with fuse 6, computed by the definitions of specs/: its bytes are a run file, and the lines are 01's.
+-- Document 01's whole example, with fuse 3 and with fuse 6, computed by the definitions of specs/: its bytes are a run file, and the lines are 01's, each with
+-- the counts of document 02 at its end. Rows wait until the commit forces them: with fuse 3 three of its six rows land, with fuse 6 all of them. In the first case
+-- the opening that follows stores an undo row and two abort rows, in the second it has nothing to do.
 use Prim.Native.Nat.{ℕ, _+_}
 use mathlib.Core.Path.{_≡_, refl}
 use mathlib.Core.Bool.{true}
@@ -19,20 +21,21 @@ file fuse =
     (1 ∷ 0 ∷ 0 ∷ 0 ∷ 0 ∷ 0 ∷ []) ++ (2 ∷ 1 ∷ 0 ∷ 0 ∷ 56 ∷ 255 ∷ []) ++ (3 ∷ 1 ∷ 2 ∷ 0 ∷ 0 ∷ 0 ∷ []) ++ (5 ∷ 1 ∷ 0 ∷ 0 ∷ 0 ∷ 0 ∷ []) ++
     (4 ∷ 2 ∷ 0 ∷ 0 ∷ 0 ∷ 0 ∷ []) ++ (8 ∷ 0 ∷ 0 ∷ 0 ∷ 0 ∷ 0 ∷ [])
 
--- a line of four digits
-abbrev digits : ℕ → ℕ → ℕ → ℕ → List ℕ
-digits a b c d = (48 + a) ∷ 32 ∷ (48 + b) ∷ 32 ∷ (48 + c) ∷ 32 ∷ (48 + d) ∷ 10 ∷ []
+-- a line of six digits
+abbrev digits : ℕ → ℕ → ℕ → ℕ → ℕ → ℕ → List ℕ
+digits a b c d e f = (48 + a) ∷ 32 ∷ (48 + b) ∷ 32 ∷ (48 + c) ∷ 32 ∷ (48 + d) ∷ 32 ∷ (48 + e) ∷ 32 ∷ (48 + f) ∷ 10 ∷ []
 
 -- the lines that do not hang on the fuse
 abbrev first : List ℕ
-first = digits 1 0 0 0 ++ digits 1 1 0 1 ++ digits 1 2 0 2 ++ digits 1 3 0 3 ++ digits 1 4 0 4 ++ digits 1 5 0 5
+first = digits 1 0 0 0 0 0 ++ digits 1 1 0 1 0 0 ++ digits 1 2 0 2 0 0 ++ digits 1 3 0 3 0 0 ++ digits 1 4 0 4 0 0 ++ digits 1 5 0 5 0 0
 
 pub record Example : Type 0 where
   pub file-3 : isRunFile (file 3) ≡ true
-  pub fuse-3 : linesOf (file 3) ≡ first ++ digits 1 6 5 0 ++ digits 2 0 0 3 ++ digits 2 1 0 0
+  pub fuse-3 : linesOf (file 3) ≡ first ++ digits 1 6 5 0 3 0 ++ digits 2 0 0 3 3 0 ++ digits 2 1 0 0 0 0
   pub file-6 : isRunFile (file 6) ≡ true
-  -- the last line is `2 1 0 -200`
-  pub fuse-6 : linesOf (file 6) ≡ first ++ digits 1 6 0 6 ++ digits 2 0 0 0 ++ (50 ∷ 32 ∷ 49 ∷ 32 ∷ 48 ∷ 32 ∷ 45 ∷ 50 ∷ 48 ∷ 48 ∷ 10 ∷ [])
+  -- the last line is `2 1 0 -200 0 0`
+  pub fuse-6 : linesOf (file 6) ≡ first ++ digits 1 6 0 6 6 0 ++ digits 2 0 0 0 0 0 ++
+      (50 ∷ 32 ∷ 49 ∷ 32 ∷ 48 ∷ 32 ∷ 45 ∷ 50 ∷ 48 ∷ 48 ∷ 32 ∷ 48 ∷ 32 ∷ 48 ∷ 10 ∷ [])
 
 pub example : Example
 unfolding isRunFile isCallAt callAt callBytes linesOf line decimal signedDecimal after reserve scopesInUse force add takeBack refusal adds through value

@@ -6,7 +6,7 @@ use mathlib.Core.Bool.{true}
 use mathlib.Core.List.{List, _∷_, _++_, append-nil}
 use lib.ListN.{length, getD}
 use Rattle.book.specs.Power.{Book}
-use Rattle.book.specs.Events.{answers, bookAfter}
+use Rattle.book.specs.Events.{bookAfter}
 use Rattle.state.specs.World.{World, Represents}
 use Rattle.run_reader.specs.File.{Asked, sessionEntryAt, fuseAt, callsAt, callsFrom, areBodies, isRunFile, sessionsFrom, sessionsIn}
 use Rattle.run_lines.specs.Output.{lineLength, Written}
@@ -78,7 +78,7 @@ module _ (file : List ℕ) (s : ℕ) (given : World) (before : List ℕ) (at : �
               (λ x.
               let k : suc (i + 1) ≡ i + 1 + 1 = omega arith in
               ap (runLines (i + 1) x) next ∙
-              ap (λ (m : ℕ). linesFrom (i + 1) 0 (answers zeros x (eventsOf (askedAt file i place))) ++
+              ap (λ (m : ℕ). linesFrom (i + 1) 0 x (eventsOf (askedAt file i place)) ++
               runLines m (bookAfter zeros x (eventsOf (askedAt file i place))) (sessionsFrom (s - (i + 1)) (i + 1) (place + 6 * callsAt file i) file)) k)
               (λ x. refl);
         }

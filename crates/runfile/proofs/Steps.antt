@@ -1,4 +1,4 @@
--- One call, one opening and the format, on a store that stands for a book of zeros: answer and store are the book's.
+-- One call, one opening and the format, on a store that stands for a book of zeros: answer, store and counts are the book's.
 use Prim.Native.Nat.{ℕ, zero, suc, _+_, _-_, _*_, _^_}
 use native.Mathlib.Omega.{arith}
 use mathlib.Core.Path.{_≡_, refl, ap, sym, _∙_, subst}
@@ -9,21 +9,25 @@ use lib.IntN.{ℤ, pos, negsuc}
 use lib.Dec.{ltb}
 use borrow.Author.Tests.{ltb-true, ltb-false, le-leb}
 use Rattle.book.specs.Limits.{logLength, chartsLength, cellLimit}
-use Rattle.book.specs.Calls.{Typed}
+use Rattle.book.specs.Calls.{Call, ending, Typed}
 use Rattle.book.specs.Rows.{isAmount}
 use Rattle.book.specs.Power.{Book, Fuse, formatted}
 use Rattle.book.specs.Book.{opening}
 use Rattle.book.specs.Events.{Event, opens, calls, happens}
+use Rattle.book.specs.Writes.{Few}
+use Rattle.book.specs.SessionWrites.{eventWrites}
 use Rattle.book.specs.LogBytes.{logBytes}
 use Rattle.book.specs.Numbers.{number, signed}
 use Rattle.book.proofs.Sound.{sound-opening, stored-allowed}
 use Rattle.book.proofs.Claims.{grows-open}
 use Rattle.book.proofs.Pages.{Bounded}
+use Rattle.book.proofs.Writes.{one-page}
 use Rattle.state.specs.World.{World, world, rightLengths, worldOf, Represents}
 use Rattle.state.specs.Contracts.{Answered, byBook, cellsOf, formats, CallPost, OpenPost, FormatPost}
 use Rattle.state.proofs.Lengths.{represented-lengths}
 use Rattle.state.proofs.StoredCharts.{charts-kept}
 use Rattle.state.proofs.OpenedStores.{byOpening, opens-book, charts-accepted}
+use Rattle.state.proofs.OpenedCounts.{opens-few}
 use Rattle.state.proofs.Kept.{kept, represents-world}
 use Rattle.state.proofs.FormattedStores.{formatted-store}
 use Rattle.state.specs.declared.ram.State.{State}
@@ -37,10 +41,11 @@ use Rattle.book.specs.Cells.{zeros}
 small : Bounded 1000000 zeros
 small c = omega arith
 
--- what an event comes to: the book's answer, and a store that stands for the book after it
+-- what an event comes to: the book's answer, a store that stands for the book after it, and the book's counts
 pub record Answers (b : Book) (e : Event) (x : Answered) : Type 0 where
   pub answer : x .answer ≡ happens zeros b e .answer
   pub stands : Represents zeros (happens zeros b e .book) (x .world)
+  pub writes : x .writes ≡ eventWrites zeros b e
 
 -- ── A call ────────────────────────────────────────────────────────────────────────────────────────────────────────────
 
@@ -72,10 +77,17 @@ typed-call bs at =
 pub call-answers : (b : Book) (bs : List ℕ) (at : ℕ) (given : World) (x : Answered) → Represents zeros b given
     → CallPost (callAt bs at) given x → Answers b (calls true (callAt bs at)) x
 unfolding byBook
-call-answers b bs at given x r post = record {
-  answer = ap (λ (y : Answered). y .answer) (post .is (represented-lengths zeros b given r) zeros b r);
-  stands = kept zeros b (callAt bs at) given x r (typed-call bs at) post;
-}
+call-answers b bs at given x r post =
+    let is = post .is (represented-lengths zeros b given r) zeros b r in
+    record {
+      answer = ap (λ (y : Answered). y .answer) is;
+      stands = kept zeros b (callAt bs at) given x r (typed-call bs at) post;
+      writes = ap (λ (y : Answered). y .writes) is;
+    }
+
+-- whatever it is handed, it stores no more rows than the log has, and one page at most
+pub called-few : (k : Call) (given : World) (x : Answered) → CallPost k given x → Few (x .writes)
+called-few k given x post = (post .few, rw (post .pages) (one-page (ending k) (x .answer .number)))
 
 -- ── An opening ────────────────────────────────────────────────────────────────────────────────────────────────────────
 
@@ -88,14 +100,18 @@ unfolding opening
 open-answers b f given x r post =
     let al = stored-allowed b (r .sound) in
     let good = charts-accepted zeros 1000000 small (b .stored) al (omega arith) (given .charts) (r .charts) in
-    let is : x ≡ byOpening zeros (given .charts) (opening b true f) = post .is ∙
+    let is : x ≡ byOpening zeros (b .stored) (given .charts) (opening b true f) = post .is ∙
     opens-book zeros 1000000 small (b .stored) al (omega arith) f given (represented-lengths zeros b given r) (stored-log b given r) (r .charts) good in
     record {
       answer = ap (λ (y : Answered). y .answer) is;
       stands = subst (Represents zeros (opening b true f .book)) (sym (ap (λ (y : Answered). y .world) is))
           (represents-world zeros (opening b true f .book) (given .charts) (r .range) (sound-opening b true f (r .sound))
           (charts-kept zeros (b .stored) (opening b true f .book .stored) (given .charts) (grows-open b true f) (r .charts)));
+      writes = ap (λ (y : Answered). y .writes) is;
     }
+
+pub opened-few : (f : Fuse) (given : World) (x : Answered) → OpenPost f given x → Few (x .writes)
+opened-few f given x post = rw (post .is) (opens-few f given)
 
 -- ── The format ────────────────────────────────────────────────────────────────────────────────────────────────────────
 

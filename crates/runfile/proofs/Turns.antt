@@ -6,7 +6,7 @@ use mathlib.Core.Bool.{true}
 use mathlib.Core.List.{List, [], _∷_, _++_, map}
 use lib.ListN.{length, length-map}
 use Rattle.book.specs.Power.{Book}
-use Rattle.book.specs.Events.{Event, calls, happens, answers, bookAfter}
+use Rattle.book.specs.Events.{Event, calls, happens, bookAfter}
 use Rattle.state.specs.World.{World, Represents}
 use Rattle.run_reader.specs.File.{callAt, callsFrom, callLength}
 use Rattle.run_lines.specs.Output.{lineLength}
@@ -24,7 +24,7 @@ calls-counted n file place = length-map (callsFrom n file place) (calls true) �
 
 -- the lines that are left, by the book before them, and the book after them
 abbrev linesLeft : ℕ → List ℕ → ℕ → ℕ → ℕ → Book → List ℕ
-linesLeft session file place n i b = linesFrom session (i + 1) (answers zeros b (callEvents (n - i) file (place + 6 * i)))
+linesLeft session file place n i b = linesFrom session (i + 1) b (callEvents (n - i) file (place + 6 * i))
 
 abbrev bookLeft : List ℕ → ℕ → ℕ → ℕ → Book → Book
 bookLeft file place n i b = bookAfter zeros b (callEvents (n - i) file (place + 6 * i))
@@ -33,7 +33,7 @@ pub record InTurns (file : List ℕ) (place n session : ℕ) (given : World) (be
   pub within : i ≤ n
   pub room : to ≤ at + lineLength * i
   pub along : (b : Book) → Represents zeros b given
-      → Along (linesLeft session file place n i) (bookLeft file place n i) (linesFrom session 1 (answers zeros b (callEvents n file place)))
+      → Along (linesLeft session file place n i) (bookLeft file place n i) (linesFrom session 1 b (callEvents n file place))
       (bookAfter zeros b (callEvents n file place)) store before at out to
 
 module _ (file : List ℕ) (place n session : ℕ) (given : World) (before : List ℕ) (at : ℕ) where
@@ -46,7 +46,7 @@ module _ (file : List ℕ) (place n session : ℕ) (given : World) (before : Lis
         room = omega arith;
         along = λ b r.
             rw (
-              ← (ap₂ (λ (m q : ℕ). linesFrom session 1 (answers zeros b (callEvents m file q))) all here),
+              ← (ap₂ (λ (m q : ℕ). linesFrom session 1 b (callEvents m file q)) all here),
               ← (ap₂ (λ (m q : ℕ). bookAfter zeros b (callEvents m file q)) all here),
             )
             (along-none (linesLeft session file place n 0) (bookLeft file place n 0) b given before at r);
@@ -61,14 +61,14 @@ module _ (file : List ℕ) (place n session : ℕ) (given : World) (before : Lis
         ap (λ (q : ℕ). calls true (callAt file (place + 6 * i)) ∷ callEvents (n - (i + 1)) file q) next
 
     lines-next : (b : Book) → linesLeft session file place n i b ≡
-        linesFrom session (i + 1) (answers zeros b (calls true (callAt file (place + 6 * i)) ∷ [])) ++
+        linesFrom session (i + 1) b (calls true (callAt file (place + 6 * i)) ∷ []) ++
         linesLeft session file place n (i + 1) (happens zeros b (calls true (callAt file (place + 6 * i))) .book)
     lines-next b =
         let k : suc (i + 1) ≡ i + 1 + 1 = omega arith in
         let e = calls true (callAt file (place + 6 * i)) in
         let es = callEvents (n - (i + 1)) file (place + 6 * (i + 1)) in
-        ap (λ (xs : List Event). linesFrom session (i + 1) (answers zeros b xs)) call-next ∙ lines-first b e es session (i + 1) ∙
-        ap (λ (m : ℕ). linesFrom session (i + 1) (answers zeros b (e ∷ [])) ++ linesFrom session m (answers zeros (happens zeros b e .book) es)) k
+        ap (λ (xs : List Event). linesFrom session (i + 1) b xs) call-next ∙ lines-first b e es session (i + 1) ∙
+        ap (λ (m : ℕ). linesFrom session (i + 1) b (e ∷ []) ++ linesFrom session m (happens zeros b e .book) es) k
 
     pub turns-more : (store store′ : World) (out out′ : List ℕ) (to to′ : ℕ) → at + lineLength * n ≤ length before
         → InTurns file place n session given before at i store out to
@@ -91,6 +91,6 @@ module _ (file : List ℕ) (place n session : ℕ) (given : World) (before : Lis
       record {
         room =
             let k = t .room in omega (arith, t .within, calls-counted n file place);
-        by = λ b r. along-all (t .along b r) (λ x. ap (λ (m : ℕ). linesFrom session (i + 1) (answers zeros x (callEvents m file (place + 6 * i)))) none)
+        by = λ b r. along-all (t .along b r) (λ x. ap (λ (m : ℕ). linesFrom session (i + 1) x (callEvents m file (place + 6 * i))) none)
             (λ x. ap (λ (m : ℕ). bookAfter zeros x (callEvents m file (place + 6 * i))) none);
       }

@@ -1,10 +1,10 @@
--- What is said of playing a run file on a store: the store goes on standing for the book, and the lines of the book's answers are written.
+-- What is said of playing a run file on a store: the store goes on standing for the book, and the lines of the book's answers and counts are written.
 use Prim.Native.Nat.{ℕ, _+_, _*_, _≤_, _<_}
 use mathlib.Core.Path.{_≡_}
 use mathlib.Core.List.{List, _++_}
 use lib.ListN.{length, drop}
 use Rattle.book.specs.Power.{Book}
-use Rattle.book.specs.Events.{Event, answers, bookAfter}
+use Rattle.book.specs.Events.{Event, bookAfter}
 use Rattle.state.specs.World.{World, Represents}
 use Rattle.run_lines.specs.Output.{lineLength, outputLength, Written}
 use Rattle.runfile.specs.Runs.{linesFrom, linesOf}
@@ -22,7 +22,7 @@ pub record Told (book : Book) (text : List ℕ) (store : World) (before : List �
 pub record Plays (events : List Event) (session call : ℕ) (given leaves : World) (before : List ℕ) (at : ℕ) (after : List ℕ) (to : ℕ) : Type 0 where
   pub room : to ≤ at + lineLength * length events
   pub by : (b : Book) → Represents zeros b given
-      → Told (bookAfter zeros b events) (linesFrom session call (answers zeros b events)) leaves before at after to
+      → Told (bookAfter zeros b events) (linesFrom session call b events) leaves before at after to
 
 -- 01: what a run file comes to, and anything else: its lines at the start of the output, and how many bytes they are; an output that could be too short for
 -- the lines of a run file stays as it is

@@ -6,8 +6,9 @@ ghost use Prim.Native.Nat.{_+_, _*_, _≤_, _<_};
 ghost use lib.ListN.{length};
 ghost use Rattle.book.specs.Power.{Book, formatted};
 ghost use Rattle.book.specs.Limits.{logLength, chartsLength};
+ghost use Rattle.book.specs.Writes.{Few};
 ghost use Rattle.book.specs.Events.{opens as openingOf, calls as callOf};
-ghost use Rattle.state.specs.Answers.{numberAndValue};
+ghost use Rattle.state.specs.Answers.{numberAndValue, rowsAndPages};
 ghost use Rattle.state.specs.World.{Represents, world, allowance};
 ghost use Rattle.run_reader.specs.File.{callLength, callAt, callsFrom, isRunFile, sessionsIn};
 ghost use Rattle.run_lines.specs.Lines.{line};
@@ -45,7 +46,7 @@ use tables_model::Scope;
 pub const INPUT_LENGTH: usize = FILE_LIMIT + 1;
 
 // Room for the lines of any run file.
-pub const OUTPUT_LENGTH: usize = 20480;
+pub const OUTPUT_LENGTH: usize = 24576;
 
 // Between two calls: what the store has in RAM, and the place of the next line.
 struct Point {
@@ -60,17 +61,27 @@ pub enum Output {
     OutputTooShort,
 }
 
-// The line of a call's answer.
+// The line of a call's answer and of what it stored.
 fn tell(o: Out, out: &mut [u8], at: usize, session: usize, call: usize) -> Point
-    requires { ⌜ (at + lineLength ≤ length (now out)) × (session < 65536) × (call < 65536) ⌝ }
-    ensures { λ r. ⌜ Written (now (out .entry)) at (line session call (numberAndValue (o .result .answer))) (r .at) (now (out .exit))
+    requires { ⌜ (at + lineLength ≤ length (now out)) × (session < 65536) × (call < 65536) × Few (rowsAndPages (o .result .writes)) ⌝ }
+    ensures { λ r. ⌜ Written (now (out .entry)) at (line session call (numberAndValue (o .result .answer)) (rowsAndPages (o .result .writes))) (r .at) (now (out .exit))
         × (r .at ≤ at + lineLength) × (r .state ≡ o .result .state) × (r .table ≡ o .table) ⌝ }
 {
     let r = o.result;
     let state = r.state;
     let table = o.table;
     let a = r.answer;
-    let next = put_line(out, at, session, call, number_of(a), value_of(a));
+    let w = r.writes;
+    let next = put_line(
+        out,
+        at,
+        session,
+        call,
+        number_of(a),
+        value_of(a),
+        w.rows,
+        w.pages,
+    );
     Point {
         state,
         table,

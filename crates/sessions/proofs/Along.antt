@@ -1,18 +1,22 @@
 -- Along the steps of the sessions: after any number of them the store's values stand for the book, and the host and the contracts go on from there.
-use Prim.Native.Nat.{ℕ}
-use mathlib.Core.Path.{_≡_, refl, ap₂}
-use mathlib.Core.Bool.{Bool}
+use Prim.Native.Nat.{ℕ, suc}
+use mathlib.Core.Path.{_≡_, refl, ap₂, _∙_}
+use mathlib.Core.Bool.{Bool, cond, true, false}
 use mathlib.Core.List.{List, [], _∷_, _++_, map}
 use lib.IntN.{ℤ}
-use Rattle.book.specs.Lists.{foldl}
+use lib.ListN.{length}
+use Rattle.book.specs.Writes.{Writes}
+use Rattle.book.specs.SessionWrites.{writes, flushDone, flushesDone}
+use Rattle.sessions.specs.Demand3.{isFlushDone}
+use Rattle.book.specs.Lists.{foldl, keep}
 use Rattle.book.specs.Power.{Book}
 use Rattle.book.specs.Book.{Answer}
 use Rattle.book.specs.Events.{happens, answers, bookAfter}
 use Rattle.book.proofs.Sound.{TypedEvents}
 use Rattle.book.proofs.Pages.{Bounded}
 use Rattle.state.specs.World.{World}
-use Rattle.sessions.specs.Host.{Step, opened, called, answerOf, eventOf, worldAfter, worldAfterAll, callsFollow, Host, Contracts}
-use Rattle.sessions.proofs.Held.{Held, ByBook, step}
+use Rattle.sessions.specs.Host.{Step, opened, called, answerOf, eventOf, worldAfter, worldAfterAll, callsFollow, Host, Contracts, writesOf}
+use Rattle.sessions.proofs.Held.{Held, ByBook, step, step-writes}
 
 -- the calls' arguments fit their types
 pub typed : (own : World) (follow : Bool) (xs ys : List Step) → Host own follow (xs ++ ys) → TypedEvents (map eventOf xs)
@@ -55,3 +59,30 @@ module _ (cells : ℕ → ℤ) (small : Bounded 1000000 cells) where
   answered (s ∷ ss) b own follow a =
       ap₂ (λ (x : Answer) (xs : List Answer). x ∷ xs) (first b own follow s ss a .answers)
       (answered ss (happens cells b (eventOf s) .book) (worldAfter own s) (callsFollow follow s) (rest b own follow s ss a))
+
+  -- and so are the counts of stored writes
+  pub step-counts : (ss : List Step) (b : Book) (own : World) (follow : Bool) → At cells b own follow ss → map writesOf ss ≡ writes cells b (map eventOf ss)
+  step-counts [] b own follow a = refl
+  step-counts (s ∷ ss) b own follow a =
+      ap₂ (λ (x : Writes) (xs : List Writes). x ∷ xs) (step-writes cells small b own follow (a .held) s (a .host .0) (a .contracts .0))
+      (step-counts ss (happens cells b (eventOf s) .book) (worldAfter own s) (callsFollow follow s) (rest b own follow s ss a))
+
+  -- the flushes that are done by the answers are those that are done by the book
+  pub flushes-counted : (ss : List Step) (b : Book) (own : World) (follow : Bool) → At cells b own follow ss
+      → length (keep isFlushDone ss) ≡ flushesDone cells b (map eventOf ss)
+  flushes-counted [] b own follow a = refl
+  flushes-counted (s ∷ ss) b own follow a =
+      let more = flushes-counted ss (happens cells b (eventOf s) .book) (worldAfter own s) (callsFollow follow s) (rest b own follow s ss a) in
+      length-cond (isFlushDone s) s (keep isFlushDone ss) ∙
+      ap₂ (λ (x : Answer) (n : ℕ). cond (flushDone (eventOf s) (x .number)) (suc n) n) (first b own follow s ss a .answers) more
+    where
+      length-cond : (t : Bool) (x : Step) (xs : List Step) → length (cond t (x ∷ xs) xs) ≡ cond t (suc (length xs)) (length xs)
+      length-cond true x xs = refl
+      length-cond false x xs = refl
+
+  -- the first of the steps, where more follow
+  pub at-first : (xs ys : List Step) (b : Book) (own : World) (follow : Bool) → At cells b own follow (xs ++ ys) → At cells b own follow xs
+  at-first [] ys b own follow a = record { held = a .held; host = tt; contracts = tt }
+  at-first (x ∷ xs) ys b own follow a =
+      let more = at-first xs ys (happens cells b (eventOf x) .book) (worldAfter own x) (callsFollow follow x) (rest b own follow x (xs ++ ys) a) in
+      record { held = a .held; host = (a .host .0, more .host); contracts = (a .contracts .0, more .contracts) }

@@ -11,6 +11,7 @@ use lib.Dec.{eqb, ltb}
 use borrow.Author.Tests.{eqb-true}
 use Rattle.book.specs.Calls.{Call}
 use Rattle.book.specs.Limits.{cellLimit, logLength, pageLimit}
+use Rattle.book.specs.Rows.{Row}
 use Rattle.book.specs.Power.{Book, Fuse}
 use Rattle.book.specs.Book.{ended, reopened, reopen}
 use Rattle.book.specs.LogBytes.{Log, good, bad, readLog}
@@ -44,11 +45,11 @@ module _ (f : Fuse) (given : World) where
   Says o = OpenAnswers given (openedWorld (given .charts) o)
 
   -- 01: ready, or the power failed
-  says-ended : (v : ℤ) (b : Book) → Says (recovered (given .charts) (ended v b))
+  says-ended : (rs : List Row) (v : ℤ) (b : Book) → Says (recovered rs (given .charts) (ended v b))
   unfolding stateOf tableOf
-  says-ended v b = go (b .isOpen) refl
+  says-ended rs v b = go (b .isOpen) refl
     where
-      go : (t : Bool) → b .isOpen ≡ t → Says (recovered (given .charts) (ended v b))
+      go : (t : Bool) → b .isOpen ≡ t → Says (recovered rs (given .charts) (ended v b))
       go true e = rw e (record {
         number = refl;
         refused = λ z. absurd (omega arith);
@@ -77,9 +78,9 @@ module _ (f : Fuse) (given : World) where
   says x (bad n row) e = says-rejected n row (inl (x .refuses n row e .0))
   says x (good rs) e = go (ltb (badPage rs (given .charts)) pageLimit)
     where
-      go : (t : Bool) → Says (cond t (rejected 4 (badPage rs (given .charts)) (given .log)) (recovered (given .charts) (reopen f rs)))
+      go : (t : Bool) → Says (cond t (rejected 4 (badPage rs (given .charts)) (given .log)) (recovered rs (given .charts) (reopen f rs)))
       go true = says-rejected 4 (badPage rs (given .charts)) (inr refl)
-      go false = says-ended _ (reopened f rs)
+      go false = says-ended rs _ (reopened f rs)
 
   open-answers : (x : Answered) → OpenPost f given x → OpenAnswers given x
   unfolding Demand2Reading openBytes

@@ -12,7 +12,7 @@ use Rattle.book.specs.Lists.{StartsWith}
 use Rattle.book.specs.Limits.{logLength, pageLimit}
 use Rattle.book.specs.Rows.{Row}
 use Rattle.book.specs.Ledger.{ledger}
-use Rattle.book.specs.Calls.{Call}
+use Rattle.book.specs.Calls.{Call, ending}
 use Rattle.book.specs.Power.{Book, Fuse, rowsOf}
 use Rattle.book.specs.Book.{Outcome, closing, adds, through, value, answer, refused, ended, call, reopened, reopen}
 use Rattle.book.specs.LogBytes.{Log, good, bad, logBytes, readLog}
@@ -24,10 +24,10 @@ use Rattle.book.proofs.Sound.{ended-book, Decided, refuses, accepts, decided}
 use Rattle.book.proofs.Openings.{ended-open, reopened-stored}
 use Rattle.book.proofs.Reading.{demand-2-reading}
 use Rattle.state.specs.World.{World, rightLengths, stateOf, tableOf, worldOf, Represents}
-use Rattle.state.specs.Contracts.{Answered, openedWorld, OpenPost, CallPost, byBook}
+use Rattle.state.specs.Contracts.{Answered, openedWorld, OpenPost, CallPost, chartsAfter, outcomeIn, byBook}
 use Rattle.state.proofs.Lengths.{represented-lengths}
 use Rattle.state.proofs.OpenedStores.{opens-bytes}
-use Rattle.sessions.specs.Demand2.{HasRows, Landed, Writes, LogIs, Reads, Demand2}
+use Rattle.sessions.specs.Demand2.{HasRows, Landed, WritesRows, LogIs, Reads, Demand2}
 use Rattle.sessions.proofs.LentBuffers.{right}
 
 -- ── Rows that landed ──────────────────────────────────────────────────────────────────────────────────────────────────
@@ -47,9 +47,6 @@ unfolding worldOf stateOf
 has-rows cells b charts rows o e = record { all = e; log = refl; tail = rw o }
 
 module _ (cells : ℕ → ℤ) (b : Book) (k : Call) (given : World) (h : Represents cells b given) where
-  abbrev after : Outcome → List ℕ → Answered
-  after o charts = record { answer = o .answer; world = worldOf cells (o .book) charts }
-
   -- what is said of a call of which the book makes `o`
   record CallSays (o : Outcome) (charts : List ℕ) : Type 0 where
     pub done : o .answer .number ≡ 0 → HasRows (worldOf cells (o .book) charts) (o .book) (rowsOf b ++ adds b k)
@@ -80,13 +77,14 @@ module _ (cells : ℕ → ℤ) (b : Book) (k : Call) (given : World) (h : Repres
         failed = λ z. subst (λ (d : Book). Landed (worldOf cells d charts) (b .stored) (b .waiting ++ adds b k)) (sym same) (failed-rows charts);
       }
 
-  writes-by : (charts : List ℕ) → Writes cells b k (after (call cells b true k) charts)
+  writes-by : (charts : List ℕ) → WritesRows cells b k (outcomeIn cells b k charts (call cells b true k))
   writes-by charts =
-      let s = says-call charts (call cells b true k) (decided cells b true k) in record { answer = refl; done = s .done; failed = s .failed }
+      let s = says-call (chartsAfter cells b (ending k) (call cells b true k .answer .number) charts) (call cells b true k) (decided cells b true k) in
+      record { answer = refl; done = s .done; failed = s .failed }
 
-  writes : (x : Answered) → CallPost k given x → Writes cells b k x
+  writes : (x : Answered) → CallPost k given x → WritesRows cells b k x
   unfolding byBook
-  writes x post = subst (Writes cells b k) (sym (post .is (represented-lengths cells b given h) cells b h)) (writes-by _)
+  writes x post = subst (WritesRows cells b k) (sym (post .is (represented-lengths cells b given h) cells b h)) (writes-by (given .charts))
 
 -- ── An opening ────────────────────────────────────────────────────────────────────────────────────────────────────────
 
@@ -135,7 +133,7 @@ module _ (f : Fuse) (w : World) (x : ReadsExactly (w .log)) where
     same-page us is = ap (λ (l : List Row). badPage l (w .charts)) (only us is)
 
     says-good : (t : Bool) → ltb (badPage rs (w .charts)) pageLimit ≡ t
-        → Says (cond t (rejected 4 (badPage rs (w .charts)) (w .log)) (recovered (w .charts) (reopen f rs)))
+        → Says (cond t (rejected 4 (badPage rs (w .charts)) (w .log)) (recovered rs (w .charts) (reopen f rs)))
     unfolding stateOf tableOf
     says-good true q = record {
       refuses = (λ z. absurd (omega arith), λ none. absurd (none rs (x .reads rs .0 e)));
@@ -152,7 +150,7 @@ module _ (f : Fuse) (w : World) (x : ReadsExactly (w .log)) where
       reads = λ us is ok. (ap (λ (l : List Row). reopen f l .answer) (only us is), ap (λ (l : List Row). logBytes (reopen f l .book .stored)) (only us is));
       done = λ us is z. ap logBytes (reopen-done f rs z) ∙ ap (λ (l : List Row). logBytes (l ++ closing (ledger l))) (only us is);
       failed = λ us is z.
-          let after : World = openedWorld (w .charts) (recovered (w .charts) (reopen f rs)) .world in
+          let after : World = openedWorld (w .charts) (recovered rs (w .charts) (reopen f rs)) .world in
           subst (λ (l : List Row). Landed after l (closing (ledger l))) (only us is) (reopen-landed after f rs refl);
     }
 

@@ -2,19 +2,22 @@
 use Prim.Native.Nat.{ℕ, _<_}
 use mathlib.Core.Path.{_≡_, ap, ap₂, sym, _∙_, subst}
 use mathlib.Core.Bool.{Bool, true, false}
-use mathlib.Core.Logic.{_↔_}
-use mathlib.Core.List.{List, [], _∷_, _++_, map, append-assoc}
+use mathlib.Core.Logic.{_↔_, _≢_}
+use mathlib.Core.List.{List, [], _∷_, _++_, map, append-assoc, append-nil}
 use lib.ListN.{length}
 use lib.IntN.{ℤ}
-use Rattle.book.specs.Lists.{StartsWith, any, foldl}
+use Rattle.book.proofs.SessionWrites.{session-counts}
+use Rattle.book.specs.Writes.{Writes}
+use Rattle.book.specs.SessionWrites.{writes, summed, NoStart, flushesDone, SessionCounts}
+use Rattle.book.specs.Lists.{StartsWith, any, foldl, keep}
 use Rattle.book.specs.Limits.{cellLimit}
-use Rattle.book.specs.Pages.{cellOf}
+use Rattle.book.specs.Pages.{cellOf, pageBytes, pageAfter}
 use Rattle.book.specs.Ledger.{Change, ledger}
 use Rattle.book.specs.Cells.{isKept, keptSum}
 use Rattle.book.specs.Calls.{Call}
-use Rattle.book.specs.Power.{Book, PowerHolds, formatted}
+use Rattle.book.specs.Power.{Book, PowerHolds, rowsOf, formatted}
 use Rattle.book.specs.Book.{Answer, answer, closing, call, opening}
-use Rattle.book.specs.Events.{happens, bookAfter}
+use Rattle.book.specs.Events.{happens, bookAfter, opens}
 use Rattle.book.specs.Logs.{Logged, undoes, Sound}
 use Rattle.book.proofs.Lists.{foldl-append}
 use Rattle.book.proofs.Fate.{once}
@@ -23,12 +26,13 @@ use Rattle.book.proofs.Claims.{grows-events}
 use Rattle.book.proofs.Openings.{holds-ready}
 use Rattle.book.proofs.Pages.{Bounded}
 use Rattle.state.specs.World.{World, rightLengths}
-use Rattle.state.specs.Contracts.{cellsOf}
+use Rattle.state.specs.Contracts.{cellsOf, withPage}
 use Rattle.state.proofs.FormattedStores.{Formatted, new-charts, newCharts, formatted-store}
-use Rattle.sessions.specs.Host.{Opening, Called, Step, opened, called, steps, eventOf, worldAfter, worldAfterAll, callsFollow}
-use Rattle.sessions.specs.Demand3.{bookOf, logOf, Lasts, Wrote, Holds, Demand3}
+use Rattle.sessions.specs.Host.{Opening, Called, Step, opened, called, steps, eventOf, worldAfter, worldAfterAll, callsFollow, writesOf, Host}
+use Rattle.sessions.specs.Demand3.{bookOf, logOf, Lasts, Wrote, Holds, Demand3, isFlushDone}
 use Rattle.sessions.proofs.Held.{Held, held-world, ByBook}
-use Rattle.sessions.proofs.Along.{typed, book-append, At, first, reach, answered}
+use Rattle.sessions.proofs.Along.{typed, book-append, At, first, reach, answered, step-counts, flushes-counted, at-first}
+use Rattle.sessions.proofs.StoredPages.{no-page-stored, page-stored}
 use Rattle.sessions.proofs.Commits.{commit-stays}
 use Rattle.sessions.proofs.ReadyOpenings.{ready-lengths, copy-sum, read-sum, undone-or-kept, wrote}
 
@@ -126,6 +130,44 @@ module _ (cells : ℕ → ℤ) (small : Bounded 1000000 cells) (own : World) (ss
       (subst (λ (x : Answer). Lasts (bookOf cells xs) v x (bookAfter cells (call cells b len (Call.commit v) .book) (map eventOf ys) .stored)) (sym answers)
       (commit-stays cells b len v (a .held .sound) done (map eventOf ys) (typed _ _ ys zs (a .host .1))))
 
+  -- ── The counts of a session ─────────────────────────────────────────────────────────────────────────────────────────
+
+  adds-up : (xs ys zs : List Step) (o : Opening) → ss ≡ xs ++ (opened o ∷ (ys ++ zs)) → rightLengths (o .given) ≡ true → NoStart (map eventOf ys)
+      → SessionCounts (o .fuse) (logOf cells xs) (summed (map writesOf (opened o ∷ ys))) (length (keep isFlushDone (opened o ∷ ys)))
+      (bookOf cells (xs ++ (opened o ∷ ys)))
+  adds-up xs ys zs o e len none =
+      let b = bookOf cells xs in
+      let w = worldAfterAll own xs in
+      let follow = foldl callsFollow true xs in
+      let a = at-first cells small (opened o ∷ ys) zs b w follow (there xs (opened o ∷ (ys ++ zs)) e) in
+      let es : map eventOf (opened o ∷ ys) ≡ opens true (o .fuse) ∷ map eventOf ys = ap (λ (t : Bool). opens t (o .fuse) ∷ map eventOf ys) len in
+      let t = typed w follow (opened o ∷ ys) [] (subst (Host w follow) (sym (append-nil (opened o ∷ ys))) (a .host)) in
+      let counts = session-counts cells b (o .fuse) (map eventOf ys) (a .held .sound) (t .1) none in
+      let sum : summed (map writesOf (opened o ∷ ys)) ≡ summed (writes cells b (opens true (o .fuse) ∷ map eventOf ys)) =
+      ap summed (step-counts cells small (opened o ∷ ys) b w follow a ∙ ap (writes cells b) es) in
+      let flushes = flushes-counted cells small (opened o ∷ ys) b w follow a ∙ ap (flushesDone cells b) es in
+      let after : bookOf cells (xs ++ (opened o ∷ ys)) ≡ bookAfter cells b (opens true (o .fuse) ∷ map eventOf ys) =
+      book-append cells formatted xs (opened o ∷ ys) ∙ ap (bookAfter cells b) es in
+      subst (λ (x : Book). SessionCounts (o .fuse) (logOf cells xs) (summed (map writesOf (opened o ∷ ys))) (length (keep isFlushDone (opened o ∷ ys))) x) (sym after)
+      (subst (λ (n : ℕ). SessionCounts (o .fuse) (logOf cells xs) (summed (map writesOf (opened o ∷ ys))) n (bookAfter cells b (opens true (o .fuse) ∷ map eventOf ys))) (sym flushes)
+      (subst (λ (w : Writes). SessionCounts (o .fuse) (logOf cells xs) w (flushesDone cells b (opens true (o .fuse) ∷ map eventOf ys)) (bookAfter cells b (opens true (o .fuse) ∷ map eventOf ys))) (sym sum) counts))
+
+  -- ── The stored charts ───────────────────────────────────────────────────────────────────────────────────────────────
+
+  unflushed : (xs ys : List Step) (s : Step) → ss ≡ xs ++ (s ∷ ys) → writesOf s .pages ≡ 0
+      → worldAfterAll own (xs ++ (s ∷ [])) .charts ≡ worldAfterAll own xs .charts
+  unflushed xs ys s e none =
+      let a = there xs (s ∷ ys) e in
+      ap (λ (w : World). w .charts) (foldl-append worldAfter own xs (s ∷ [])) ∙
+      no-page-stored cells small (bookOf cells xs) (worldAfterAll own xs) _ (a .held) s (a .host .0) (a .contracts .0) none
+
+  flushed : (xs ys : List Step) (c : Called) (p : ℕ) → ss ≡ xs ++ (called c ∷ ys) → c .call ≡ Call.flush p → c .result .writes .pages ≢ 0
+      → worldAfterAll own (xs ++ (called c ∷ [])) .charts ≡ withPage p (pageBytes (pageAfter cells (rowsOf (bookOf cells xs)) p)) (worldAfterAll own xs .charts)
+  flushed xs ys c p e k some =
+      let a = there xs (called c ∷ ys) e in
+      ap (λ (w : World). w .charts) (foldl-append worldAfter own xs (called c ∷ [])) ∙
+      page-stored cells small (bookOf cells xs) (worldAfterAll own xs) _ (a .held) c p (a .host .0) (a .contracts .0) k some
+
   -- ── All of it ───────────────────────────────────────────────────────────────────────────────────────────────────────
 
   holds : Holds cells own ss
@@ -140,6 +182,10 @@ module _ (cells : ℕ → ℤ) (small : Bounded 1000000 cells) (own : World) (ss
     once = λ xs ys e. once (logOf cells xs) (stored-allowed (bookOf cells xs) (there xs ys e .held .sound));
     ready = ends-ready;
     wrote = its-rows;
+    counts = step-counts cells small ss formatted own true start;
+    charts = unflushed;
+    flushed = flushed;
+    session = adds-up;
   }
 
 -- ── Demand 3 ──────────────────────────────────────────────────────────────────────────────────────────────────────────

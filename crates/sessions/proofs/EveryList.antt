@@ -73,7 +73,7 @@ module _ (cells : ℕ → ℤ) (small : Bounded 1000000 cells) where
   does b own (Event.calls true k) h t = record {
     event = ap (λ (l : Bool). Event.calls l k) (represented-lengths cells b own (represents cells b own small h));
     may = (refl, t, lends-own own .0, lends-own own .1);
-    post = met cells b k own (represents cells b own small h);
+    post = met cells b k own (represents cells b own small h) t;
     follow = refl;
   }
   does b own (Event.calls false k) h t = record {

@@ -1,5 +1,6 @@
 pub mod LentBuffers
 pub mod Held
+pub mod StoredPages
 pub mod Along
 pub mod ReadyOpenings
 pub mod Commits

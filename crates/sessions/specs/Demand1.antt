@@ -11,7 +11,7 @@ use Rattle.book.specs.Lists.{member}
 use Rattle.book.specs.Calls.{Call}
 use Rattle.book.specs.Power.{Fuse}
 use Rattle.state.specs.World.{World, works, cleared}
-use Rattle.state.specs.Contracts.{Answered, answered, numbers, FormatPost, OpenPost, CallPost}
+use Rattle.state.specs.Contracts.{Answered, answered, failedAfter, numbers, FormatPost, OpenPost, CallPost}
 
 -- 01, "Refusals by place": the numbers of format and of open; `numbers` has those of the other calls
 abbrev pub formatNumbers : List ℕ
@@ -24,9 +24,9 @@ openNumbers = 0 ∷ 1 ∷ 3 ∷ 4 ∷ 5 ∷ []
 pub record FormatAnswers (given : World) (x : Answered) : Type 0 where
   pub number : member (x .answer .number) formatNumbers ≡ true
   -- a refusal changes no byte
-  pub refused : x .answer .number ≢ 0 → x .world ≡ given
+  pub refused : x .answer .number ≢ 0 → x ≡ answered (x .answer .number) (x .answer .value) given
   -- 01: copy, tail and scopes end as after a power failure, and the store is closed
-  pub done : x .answer .number ≡ 0 → x .world ≡ cleared (x .world .log) (x .world .charts)
+  pub done : x .answer .number ≡ 0 → x ≡ answered 0 (pos 0) (cleared (x .world .log) (x .world .charts))
 
 -- of an opening
 pub record OpenAnswers (given : World) (x : Answered) : Type 0 where
@@ -34,9 +34,9 @@ pub record OpenAnswers (given : World) (x : Answered) : Type 0 where
   -- a refusal changes no byte
   pub refused : x .answer .number ≡ 1 → x ≡ answered 1 (pos 0) given
   -- 01: "After 3 or 4 log and charts are unchanged, while copy, tail and scopes end as after a power failure and the store is closed."
-  pub rejected : (x .answer .number ≡ 3) ⊎ (x .answer .number ≡ 4) → x .world ≡ cleared (given .log) (given .charts)
+  pub rejected : (x .answer .number ≡ 3) ⊎ (x .answer .number ≡ 4) → x ≡ answered (x .answer .number) (x .answer .value) (cleared (given .log) (given .charts))
   -- 01, "Power": copy, tail and scopes are cleared and the store is closed; the charts are as they were, and demand 2 says which rows the log has
-  pub failed : x .answer .number ≡ 5 → x ≡ answered 5 (pos 0) (cleared (x .world .log) (given .charts))
+  pub failed : x .answer .number ≡ 5 → x ≡ failedAfter (x .writes .rows) (cleared (x .world .log) (given .charts))
 
 -- of any other call
 pub record CallAnswers (k : Call) (given : World) (x : Answered) : Type 0 where
@@ -46,7 +46,7 @@ pub record CallAnswers (k : Call) (given : World) (x : Answered) : Type 0 where
   -- 5: the store was closed, or its counters (of the host's making) were beyond their limits, and it is as it was
   pub shut : x .answer .number ≡ 5 → works (given .state) ≡ false → x ≡ answered 5 (pos 0) given
   -- or else the power failed, which leaves what 01 says under Power
-  pub failed : x .answer .number ≡ 5 → works (given .state) ≡ true → x ≡ answered 5 (pos 0) (cleared (x .world .log) (given .charts))
+  pub failed : x .answer .number ≡ 5 → works (given .state) ≡ true → x ≡ failedAfter (x .writes .rows) (cleared (x .world .log) (given .charts))
 
 -- format, open and the eight calls of an open store, whatever functions meet the contracts
 pub record Demand1 : Type 0 where

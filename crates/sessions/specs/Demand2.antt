@@ -36,7 +36,7 @@ pub record Landed (w : World) (old next : List Row) : Type 0 where
   pub log : w .log ≡ logBytes (old ++ landed)
 
 -- a call of a store that stands for the book `b`. (What a refusal by another number than 5 leaves is demand 1's.)
-pub record Writes (cells : ℕ → ℤ) (b : Book) (k : Call) (x : Answered) : Type 0 where
+pub record WritesRows (cells : ℕ → ℤ) (b : Book) (k : Call) (x : Answered) : Type 0 where
   -- its answer is the book's, so a store that always says 5 or 8 is shut out
   pub answer : x .answer ≡ call cells b true k .answer
   -- done: the rows of log and tail, and then its rows; the book says which are stored
@@ -70,5 +70,5 @@ pub record Reads (f : Fuse) (given : World) (x : Answered) : Type 0 where
 -- both halves, whatever functions meet the contracts
 pub record Demand2 : Type 0 where
   pub writes : (cells : ℕ → ℤ) (b : Book) (k : Call) (given : World) (x : Answered) → Represents cells b given → Typed k → CallPost k given x →
-      Writes cells b k x
+      WritesRows cells b k x
   pub reads : (f : Fuse) (given : World) (x : Answered) → OpenPost f given x → rightLengths given ≡ true → Reads f given x

@@ -1,8 +1,8 @@
 -- Demand 3 (document 00) as one statement over the whole list of sessions, a field for each of its sentences.
 use Prim.Native.Nat.{ℕ, _-_, _≤_, _<_}
-use mathlib.Core.Bool.{true, false}
+use mathlib.Core.Bool.{Bool, true, false}
 use mathlib.Core.Path.{_≡_}
-use mathlib.Core.Logic.{_↔_}
+use mathlib.Core.Logic.{_↔_, _≢_}
 use mathlib.Core.List.{List, [], _∷_, _++_, map}
 use lib.ListN.{length, drop}
 use lib.IntN.{ℤ, pos}
@@ -16,12 +16,13 @@ use Rattle.book.specs.Calls.{Call}
 use Rattle.book.specs.Power.{Book, PowerHolds, rowsOf, formatted}
 use Rattle.book.specs.Book.{Answer, answer, closing}
 use Rattle.book.specs.Events.{answers, bookAfter}
+use Rattle.book.specs.SessionWrites.{writes, summed, NoStart, flushDone, SessionCounts}
 use Rattle.book.specs.LogBytes.{logBytes}
-use Rattle.book.specs.Pages.{cellOf, rowAt}
+use Rattle.book.specs.Pages.{cellOf, rowAt, pageBytes, pageAfter}
 use Rattle.book.specs.Logs.{Logged, InSum, undoes, Once}
 use Rattle.state.specs.World.{World, rightLengths}
-use Rattle.state.specs.Contracts.{Answered, FormatPost, cellsOf}
-use Rattle.sessions.specs.Host.{Opening, Called, Session, Step, opened, called, steps, answerOf, eventOf, worldAfterAll, Host, Contracts}
+use Rattle.state.specs.Contracts.{Answered, FormatPost, cellsOf, withPage}
+use Rattle.sessions.specs.Host.{Opening, Called, Session, Step, opened, called, steps, answerOf, writesOf, eventOf, worldAfterAll, Host, Contracts}
 
 -- the book after these steps, and its stored rows
 abbrev pub bookOf : (ℕ → ℤ) → List Step → Book
@@ -48,6 +49,10 @@ pub record Lasts (before : Book) (visit : ℕ) (answer : Answer) (later : List R
 pub record Wrote (old new : List Row) (answer : Answer) : Type 0 where
   pub rows : answer .value ≡ pos (length new - length old)
   pub undos : length (keep isUndo (drop (length old) new)) ≡ length (openChanges (ledger old))
+
+-- a flush that was done
+abbrev pub isFlushDone : Step → Bool
+isFlushDone s = flushDone (eventOf s) (answerOf s .number)
 
 -- For the store formatted with `cells` that holds `own` before the steps. `xs` are always the steps up to some point.
 pub record Holds (cells : ℕ → ℤ) (own : World) (ss : List Step) : Type 0 where
@@ -78,6 +83,18 @@ pub record Holds (cells : ℕ → ℤ) (own : World) (ss : List Step) : Type 0 w
   -- 01: an opening "returns the rows it wrote", and an undo count that isn't the number of undo rows is shut out
   pub wrote : (xs ys : List Step) (o : Opening) → ss ≡ xs ++ (opened o ∷ ys) → o .result .answer .number ≡ 0 →
       Wrote (logOf cells xs) (logOf cells (xs ++ (opened o ∷ []))) (o .result .answer)
+  -- 02, L1: "Every result, refusals included, carries the stored writes that this call landed": the book's counts, step by step
+  pub counts : map writesOf ss ≡ writes cells formatted (map eventOf ss)
+  -- the stored charts are as before where no page is counted; where one is, they have the page of the flush, as it is after the rows so far
+  pub charts : (xs ys : List Step) (s : Step) → ss ≡ xs ++ (s ∷ ys) → writesOf s .pages ≡ 0 →
+      worldAfterAll own (xs ++ (s ∷ [])) .charts ≡ worldAfterAll own xs .charts
+  pub flushed : (xs ys : List Step) (c : Called) (p : ℕ) → ss ≡ xs ++ (called c ∷ ys) → c .call ≡ Call.flush p → c .result .writes .pages ≢ 0 →
+      worldAfterAll own (xs ++ (called c ∷ [])) .charts ≡ withPage p (pageBytes (pageAfter cells (rowsOf (bookOf cells xs)) p)) (worldAfterAll own xs .charts)
+  -- "Over a session the counts add up to the writes that landed, whether or not the fuse burnt": of a session's opening `o` and the steps `ys` after it, up
+  -- to the next opening that is not refused by 1, which gets another fuse
+  pub session : (xs ys zs : List Step) (o : Opening) → ss ≡ xs ++ (opened o ∷ (ys ++ zs)) → rightLengths (o .given) ≡ true → NoStart (map eventOf ys) →
+      SessionCounts (o .fuse) (logOf cells xs) (summed (map writesOf (opened o ∷ ys))) (length (keep isFlushDone (opened o ∷ ys)))
+      (bookOf cells (xs ++ (opened o ∷ ys)))
 
 -- After an accepted format, any list of sessions of a host that keeps to 01, whatever functions meet the contracts.
 unfoldable pub Demand3 : Type 0

@@ -12,6 +12,7 @@ use Rattle.book.specs.Calls.{Call, Typed}
 use Rattle.book.specs.Power.{Fuse}
 use Rattle.book.specs.Book.{Answer}
 use Rattle.book.specs.Events.{Event, opens, calls}
+use Rattle.book.specs.Writes.{Writes}
 use Rattle.state.specs.World.{World, rightLengths}
 use Rattle.state.specs.Contracts.{Answered, OpenPost, CallPost}
 
@@ -44,7 +45,7 @@ abbrev pub steps : List Session → List Step
 steps [] = []
 steps (s ∷ ss) = opened (s .opening) ∷ map called (s .calls) ++ steps ss
 
--- what the step was given, answered and left
+-- what the step was given, answered, stored and left
 abbrev pub givenTo : Step → World
 givenTo (opened o) = o .given
 givenTo (called c) = c .given
@@ -52,6 +53,10 @@ givenTo (called c) = c .given
 abbrev pub answerOf : Step → Answer
 answerOf (opened o) = o .result .answer
 answerOf (called c) = c .result .answer
+
+abbrev pub writesOf : Step → Writes
+writesOf (opened o) = o .result .writes
+writesOf (called c) = c .result .writes
 
 abbrev pub leftBy : Step → World
 leftBy (opened o) = o .result .world

@@ -14,16 +14,18 @@ use Rattle.book.specs.Rules.{allowedLog}
 use Rattle.book.specs.Cells.{movedBy, applied}
 use Rattle.book.specs.Calls.{Call, ending, flushes}
 use Rattle.book.specs.Power.{Book, rowsOf}
-use Rattle.book.specs.Book.{refusal, value, accepted, decide, Answer, Outcome, refused, call}
+use Rattle.book.specs.Book.{refusal, value, accepted, decide, answer, Outcome, refused, call}
+use Rattle.book.specs.Writes.{Writes, callWrites}
 use Rattle.book.specs.Numbers.{within}
 use Rattle.book.specs.Pages.{chartBytes, cellOf, pageAfter}
 use Rattle.book.specs.Opening.{noCopy}
 use Rattle.book.proofs.InvariantKept.{few-rows}
 use Rattle.book.proofs.Adds.{passes}
+use Rattle.book.proofs.Writes.{refused-writes}
 use Rattle.book.proofs.Sound.{Decided, refuses, accepts, decided}
 use Rattle.book.proofs.Pages.{Bounded, within-abs, SamePage, page-same, chart-same, cell-read}
 use Rattle.state.specs.World.{World, stateOf, copyOf, tableOf, worldOf, Represents}
-use Rattle.state.specs.Contracts.{answered, withPage, chartsAfter, byBook}
+use Rattle.state.specs.Contracts.{answered, withPage, chartsAfter, outcomeIn, byBook}
 use Rattle.state.proofs.StoredCharts.{flush-page}
 use Rattle.state.proofs.SameBook.{books-same}
 
@@ -135,10 +137,10 @@ module _ (cells cells′ : ℕ → ℤ) (b : Book) (same : (c : ℕ) → c < cel
   by-agrees : (k : Call) (w : World) → byBook cells b k w ≡ byBook cells′ b k w
   unfolding byBook
   by-agrees k w =
-      ap₂ (λ (n : Answer) (x : World). record { answer = n; world = x }) (ap (λ (o : Outcome). o .answer) (call-same k))
-      (world-agrees cells cells′ same (call cells b true k .book) _ ∙
-      ap₂ (λ (x : Book) (l : List ℕ). worldOf cells′ x l) (ap (λ (o : Outcome). o .book) (call-same k))
-      (charts-agree k (w .charts) ∙ ap (λ (o : Outcome). chartsAfter cells′ b (ending k) (o .answer .number) (w .charts)) (call-same k)))
+      let o = call cells b true k in
+      ap (λ (x : World). record { answer = o .answer; world = x; writes = callWrites b k o })
+      (world-agrees cells cells′ same (o .book) _ ∙ ap (worldOf cells′ (o .book)) (charts-agree k (w .charts))) ∙
+      ap (outcomeIn cells′ b k (w .charts)) (call-same k)
 
 -- ── A closed book ─────────────────────────────────────────────────────────────────────────────────────────────────────
 
@@ -153,6 +155,13 @@ charts-refused cells b Call.force n charts = refl
 charts-refused cells b (Call.flush p) n charts = rw (ne-eqb (suc n) 0 (λ q. omega arith))
 charts-refused cells b (Call.read c) n charts = refl
 
+-- what a refusal comes to in the values that stand for the book: nothing changes
+pub refused-in : (cells : ℕ → ℤ) (b : Book) (k : Call) (w : World) (n : ℕ) → w ≡ worldOf cells b (w .charts)
+    → outcomeIn cells b k (w .charts) (refused (suc n) b) ≡ answered (suc n) (pos 0) w
+refused-in cells b k w n is =
+    ap₂ (λ (x : World) (v : Writes). record { answer = answer (suc n) (pos 0); world = x; writes = v })
+    (ap (worldOf cells b) (charts-refused cells b k n (w .charts)) ∙ sym is) (refused-writes b k n)
+
 refused-five : (cells : ℕ → ℤ) (b : Book) (k : Call) → b .isOpen ≡ false → call cells b true k ≡ refused 5 b
 unfolding call
 refused-five cells b k o = ap (λ (t : Bool). decide cells b k (cond (not t) 5 (refusal b k))) o
@@ -161,9 +170,7 @@ refused-five cells b k o = ap (λ (t : Bool). decide cells b k (cond (not t) 5 (
 pub closed-call : (cells : ℕ → ℤ) (b : Book) (k : Call) (w : World) → b .isOpen ≡ false → Represents cells b w → byBook cells b k w ≡ answered 5 (pos 0) w
 unfolding byBook
 closed-call cells b k w o h =
-    ap (λ (x : Outcome). record { answer = x .answer; world = worldOf cells (x .book) (chartsAfter cells b (ending k) (x .answer .number) (w .charts)) })
-    (refused-five cells b k o) ∙
-    ap (answered 5 (pos 0)) (ap (worldOf cells b) (charts-refused cells b k 4 (w .charts)) ∙ sym (h .is))
+    ap (outcomeIn cells b k (w .charts)) (refused-five cells b k o) ∙ refused-in cells b k w 4 (h .is)
 
 -- ── Any two books ─────────────────────────────────────────────────────────────────────────────────────────────────────
 

@@ -5,13 +5,13 @@ use mathlib.Core.Path.{_≡_, refl, ap, sym, _∙_}
 use mathlib.Core.Bool.{Bool, true, false, cond, not}
 use mathlib.Core.Logic.{_≢_}
 use lib.IntN.{ℤ, pos}
-use Rattle.book.specs.Calls.{Call, ending}
+use Rattle.book.specs.Calls.{Call}
 use Rattle.book.specs.Power.{Book}
 use Rattle.book.proofs.Lists.{clash}
 use Rattle.book.specs.Book.{answer, refusal, through, value, Outcome, refused, ended, accepted, decide, call}
-use Rattle.state.specs.World.{World, worldOf, Represents}
-use Rattle.state.specs.Contracts.{answered, chartsAfter, byBook}
-use Rattle.state.proofs.Agree.{charts-refused}
+use Rattle.state.specs.World.{World, Represents}
+use Rattle.state.specs.Contracts.{answered, outcomeIn, byBook}
+use Rattle.state.proofs.Agree.{refused-in}
 use Rattle.state.proofs.OwnNumbers.{own-not-five, refusal-own}
 
 -- done with the book open after it, or cut with the book closed
@@ -69,5 +69,4 @@ pub refused-keeps : (cells : ℕ → ℤ) (b : Book) (k : Call) (w : World) (n :
     → byBook cells b k w ≡ answered (suc n) (pos 0) w
 unfolding byBook
 refused-keeps cells b k w n r e =
-    ap (λ (o : Outcome). record { answer = o .answer; world = worldOf cells (o .book) (chartsAfter cells b (ending k) (o .answer .number) (w .charts)) }) e ∙
-    ap (answered (suc n) (pos 0)) (ap (worldOf cells b) (charts-refused cells b k n (w .charts)) ∙ sym (r .is))
+    ap (outcomeIn cells b k (w .charts)) e ∙ refused-in cells b k w n (r .is)

@@ -4,6 +4,7 @@ pub mod StoredCharts
 pub mod FormattedStores
 pub mod FormatAndOpen
 pub mod OpenedStores
+pub mod OpenedCounts
 pub mod Kept
 pub mod Ready
 pub mod SameBook

@@ -52,7 +52,7 @@ accepted f log charts long = go (readLog log) refl
     go (good rs) e z = pages (ltb (badPage rs charts) pageLimit) refl z
       where
         pages : (t : Bool) → ltb (badPage rs charts) pageLimit ≡ t
-            → cond t (rejected 4 (badPage rs charts) log) (recovered charts (reopen f rs)) .answer .number ≡ 0 → Accepted log charts
+            → cond t (rejected 4 (badPage rs charts) log) (recovered rs charts (reopen f rs)) .answer .number ≡ 0 → Accepted log charts
         pages true q z = absurd (omega arith)
         pages false q z =
             let x = log-exact log rs long e in

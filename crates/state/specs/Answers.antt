@@ -4,8 +4,10 @@ use mathlib.Core.Logic.{_⊎_}
 use lib.IntN.{pos}
 use Rattle.book.specs.Book as book
 use Rattle.book.specs.Book.{done, refusedBy}
+use Rattle.book.specs.Writes.{Writes}
 use Rattle.book.specs.Calls.{Return, theVisit, theRow, theCell, zeroValue}
 use Rattle.state.specs.declared.answers.Answer.{Answer}
+use Rattle.state.specs.declared.answers.Writes.{Writes as TheWrites}
 use Rattle.state.specs.declared.answers.Answer.the-variants.{Done, Visit, Row, Grams, Wrote, WrongLength, CellOutOfRange, BadRow, BadPage, Closed, VisitsUsedUp, TooManyActive, NoRoom, NotActive, NoSuchCell, ScopesUsedUp, SameVisit, HoldsNone, NoSuchPage}
 
 abbrev pub numberAndValue : Answer → book.Answer
@@ -28,6 +30,10 @@ numberAndValue ScopesUsedUp = refusedBy 11
 numberAndValue SameVisit = refusedBy 12
 numberAndValue HoldsNone = refusedBy 13
 numberAndValue NoSuchPage = refusedBy 14
+
+-- 02's counts of the stored writes
+abbrev pub rowsAndPages : TheWrites → Writes
+rowsAndPages w = record { rows = w .rows; pages = w .pages }
 
 -- ── Cases ─────────────────────────────────────────────────────────────────────────────────────────────────────────────
 

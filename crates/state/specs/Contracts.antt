@@ -1,5 +1,5 @@
 -- What the public functions promise: result, state, log, charts, copy and scopes, by equation, refusals too.
-use Prim.Native.Nat.{ℕ, _+_, _*_}
+use Prim.Native.Nat.{ℕ, _+_, _-_, _*_, _≤_}
 use mathlib.Core.Bool.{true, false, cond, not, _&&_}
 use mathlib.Core.Path.{_≡_}
 use mathlib.Core.Logic.{_≢_}
@@ -8,23 +8,25 @@ use lib.ListN.{length, getD, take, drop}
 use lib.IntN.{ℤ, pos}
 use lib.Dec.{ltb, eqb}
 use Rattle.book.specs.Lists.{firstFailing, member}
-use Rattle.book.specs.Limits.{cellLimit, formatBound, pageLength}
+use Rattle.book.specs.Limits.{cellLimit, formatBound, pageLength, rowLimit}
 use Rattle.book.specs.Calls.{Call, Ending, waits, forces, flushes, ending}
 use Rattle.book.specs.Power.{Book, Fuse, rowsOf}
 use Rattle.book.specs.Book.{Answer, answer, Outcome, call}
+use Rattle.book.specs.Writes.{Writes, noWrites, pagesOf, callWrites}
 use Rattle.book.specs.Numbers.{within}
 use Rattle.book.specs.LogBytes.{logBytes}
 use Rattle.book.specs.Pages.{pageBytes, chartBytes, pageAfter}
 use Rattle.book.specs.Opening.{Opened, openBytes}
 use Rattle.tables_model.specs.declared.Scope.{Scope}
 use Rattle.state.specs.declared.answers.Result.{Result}
-use Rattle.state.specs.Answers.{numberAndValue}
+use Rattle.state.specs.Answers.{numberAndValue, rowsAndPages}
 use Rattle.state.specs.World.{World, world, rightLengths, works, stateOf, tableOf, cleared, worldOf, Represents}
 
 -- what a call gives back and leaves
 pub record Answered : Type 0 where
   pub answer : Answer
   pub world : World
+  pub writes : Writes  -- 02, L1: the stored writes that it landed
 
 -- what a function gives back, and what the lent buffers are after it
 pub record Returned : Type 0 where
@@ -40,11 +42,23 @@ returned r log charts copy scopes = record { result = r; log = log; charts = cha
 
 -- with 01's number and value for the answer
 abbrev pub answeredBy : Returned → Answered
-answeredBy x = record { answer = numberAndValue (x .result .answer); world = world (x .result .state) (x .log) (x .charts) (x .copy) (x .scopes) }
+answeredBy x = record {
+  answer = numberAndValue (x .result .answer);
+  world = world (x .result .state) (x .log) (x .charts) (x .copy) (x .scopes);
+  writes = rowsAndPages (x .result .writes);
+}
 
--- by number, value and world
+-- by number, value, world and counts
+abbrev pub answeredWith : ℕ → ℤ → World → Writes → Answered
+answeredWith n v w u = record { answer = answer n v; world = w; writes = u }
+
+-- nothing was stored
 abbrev pub answered : ℕ → ℤ → World → Answered
-answered n v w = record { answer = answer n v; world = w }
+answered n v w = answeredWith n v w noWrites
+
+-- 01, "Power": the power failed after so many rows were stored; no page was, since it is the last write of a call
+abbrev pub failedAfter : ℕ → World → Answered
+failedAfter rows w = answeredWith 5 (pos 0) w (record { rows = rows; pages = 0 })
 
 -- ── Format and open: for whatever they are handed ─────────────────────────────────────────────────────────────────────
 
@@ -69,6 +83,7 @@ abbrev pub openedWorld : List ℕ → Opened → Answered
 openedWorld charts o = record {
   answer = o .answer;
   world = record { state = stateOf (o .book); log = o .log; charts = charts; copy = o .copy; scopes = tableOf (o .book) };
+  writes = o .writes;
 }
 
 -- 01: open. Nothing is taken from state, copy or scopes but their lengths.
@@ -95,11 +110,17 @@ chartsAfter cells b waits n charts = charts
 chartsAfter cells b forces n charts = charts
 chartsAfter cells b (flushes p) n charts = cond (eqb n 0) (withPage p (pageBytes (pageAfter cells (rowsOf b) p)) charts) charts
 
+-- what the book's outcome of a call comes to in the values, with these stored charts before it
+abbrev pub outcomeIn : (ℕ → ℤ) → Book → Call → List ℕ → Outcome → Answered
+outcomeIn cells b k charts o = record {
+  answer = o .answer;
+  world = worldOf cells (o .book) (chartsAfter cells b (ending k) (o .answer .number) charts);
+  writes = callWrites b k o;
+}
+
 -- what the book makes of the call, and of the values that stand for it
 unfoldable pub byBook : (ℕ → ℤ) → Book → Call → World → Answered
-byBook cells b k w =
-    let o : Outcome = call cells b true k in
-    record { answer = o .answer; world = worldOf cells (o .book) (chartsAfter cells b (ending k) (o .answer .number) (w .charts)) }
+byBook cells b k w = outcomeIn cells b k (w .charts) (call cells b true k)
 
 -- 01, "Refusals by place": the numbers of the call's own row
 abbrev pub ownNumbers : Call → List ℕ
@@ -127,6 +148,11 @@ pub record CallPost (k : Call) (given : World) (x : Answered) : Type 0 where
   -- 00, demand 1: a refusal changes no byte, whatever the call was handed
   pub keeps : x .answer .number ≢ 0 → x .answer .number ≢ 5 → x ≡ answered (x .answer .number) (pos 0) given
   -- 01, "Power": a 5 of a store that calls work on is a power failure, which leaves the charts, and copy, tail and scopes cleared
-  pub cut : works (given .state) ≡ true → x .answer .number ≡ 5 → x ≡ answered 5 (pos 0) (cleared (x .world .log) (given .charts))
+  pub cut : works (given .state) ≡ true → x .answer .number ≡ 5 → x ≡ failedAfter (x .writes .rows) (cleared (x .world .log) (given .charts))
+  -- 02, L1: a call that is done has stored as many rows as the state counts more than before; no call stores more than the log has
+  pub rows : x .answer .number ≡ 0 → x .writes .rows ≡ x .world .state .stored - given .state .stored
+  pub few : x .writes .rows ≤ rowLimit
+  -- and a page exactly where a flush is done
+  pub pages : x .writes .pages ≡ pagesOf (ending k) (x .answer .number)
   -- what stands for a book becomes what stands for the book after the call
   pub is : rightLengths given ≡ true → (cells : ℕ → ℤ) (b : Book) → Represents cells b given → x ≡ byBook cells b k given

@@ -29,10 +29,23 @@ pub enum Answer {
     NoSuchPage,
 }
 
+// The stored writes that a call landed, rows and pages.
+pub struct Writes {
+    pub rows: usize,
+    pub pages: usize,
+}
+
 // What a call gives back.
 pub struct Result {
     pub state: State,
     pub answer: Answer,
+    pub writes: Writes,
+}
+
+pub fn no_writes() -> Writes
+    ensures { λ r. ⌜ r ≡ record { rows = 0; pages = 0 } ⌝ }
+{
+    Writes { rows: 0, pages: 0 }
 }
 
 // Document 01's refusal number, 0 where the call was done.

@@ -9,6 +9,7 @@ use journal::Control;
 use journal::Outcome;
 use journal::writes::clear;
 use state::answers::Answer;
+use state::answers::Writes;
 use state::ram::Fuse;
 use state::ram::Phase;
 use tables::visits::no_counts;
@@ -20,9 +21,10 @@ pub fn clear_ram(
     visits: &mut [u16],
     scopes: &mut [u16],
     answer: Answer,
+    writes: Writes,
 ) -> Outcome
     requires { ⌜ (length (now copy) ≡ chartsLength) × (length (now tail) ≡ tailLength) × (length (now visits) ≡ visitsLength) × (length (now scopes) ≡ flatLength) ⌝ }
-    ensures { λ r. ⌜ (r .answer ≡ answer) × Zeroed r (now (copy .exit)) (now (tail .exit)) (now (visits .exit)) (now (scopes .exit)) ⌝ }
+    ensures { λ r. ⌜ (r .answer ≡ answer) × (r .writes ≡ writes) × Zeroed r (now (copy .exit)) (now (tail .exit)) (now (visits .exit)) (now (scopes .exit)) ⌝ }
 {
     clear(copy);
     clear(tail);
@@ -39,5 +41,6 @@ pub fn clear_ram(
         answer: answer,
         control: control,
         counts: counts,
+        writes: writes,
     }
 }

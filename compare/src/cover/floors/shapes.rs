@@ -2,14 +2,16 @@
 
 use super::Table;
 
-/// The stored writes of calls and openings: a full tail that is stored before a row is added, and the
-/// writes at which power failed. Begin, change, hand over and abort write nothing but full tails.
+/// The stored writes of calls and openings, by the counts of their answers: what was stored, a full tail
+/// that is stored before a row is added, and the writes at which power failed. Begin, change, hand over and
+/// abort write nothing but full tails.
 pub const WRITES: Table = Table {
     title: "stored writes, by place",
     lines: &[
         (
             "open",
             &[
+                ("rows stored", 5_800),
                 ("cut at the first write", 170),
                 ("cut between undo rows", 840),
                 ("cut between undo rows and abort rows", 28),
@@ -45,6 +47,8 @@ pub const WRITES: Table = Table {
         (
             "commit",
             &[
+                ("its own row stored", 2_700),
+                ("rows that waited stored too", 10_000),
                 ("full tail stored first", 10),
                 ("cut at the first write", 130),
                 ("cut between rows", 150),
@@ -56,15 +60,20 @@ pub const WRITES: Table = Table {
             "abort",
             &[
                 ("full tail stored first", 15),
+                ("tail that it has filled stored", 68),
+                ("more than 64 rows stored", 6),
                 ("cut at the first write", 7),
                 ("cut between rows of a full tail", 89),
                 ("cut after some of its undo rows", 10),
+                ("cut after more than 64 rows", 5),
             ],
         ),
-        ("force", &[("cut at the first write", 93), ("cut between rows", 150)]),
+        ("force", &[("rows stored", 7_900), ("cut at the first write", 93), ("cut between rows", 150)]),
         (
             "flush",
             &[
+                ("rows and its page stored", 1_800),
+                ("its page stored", 12_000),
                 ("cut at the first write", 170),
                 ("cut between rows", 72),
                 ("cut between its rows and its page", 22),
@@ -133,6 +142,15 @@ pub const SHAPES: Table = Table {
                 ("opening done with the last write of its fuse", 55),
                 ("call done with the last write of its fuse", 360),
                 ("call done with the fuse used up", 4_100),
+            ],
+        ),
+        (
+            "sums of the counts of a session",
+            &[
+                ("session that stored something, no fuse", 7_400),
+                ("session that stored something, its fuse not burnt", 1_300),
+                ("session that stored something, its fuse burnt", 1_900),
+                ("session that stored on after an opening refused by 1", 25),
             ],
         ),
         (

@@ -14,14 +14,15 @@ use Rattle.calls.proofs.accept.accept_read.Reads as reads
 
 returns : tie.Need-returns
 returns c =
-    let s = c .before .before .before .before .before .before in
+    let s = c .before .before .before .before .before .before .before in
     let a = s .args in (
       (λ charts. let x = core (a .c) (a .t) (a .visits .now) (a .log .now) charts (a .copy .now) (a .tail .now) (a .scopes .now) in
           accepted-by _ _ _ _ charts _ _ _ (Call.read _) (s .pre) _ _ _ _ _ _ _ _ (reads x _) _ (ap done (toZ-ofZ (record { sfits = c .read-cell .ok }) ∙ c .read-cell .ensures)) refl _ _ _ _ _
-          (inl (nothing-done _ _ _ _ _ _ _ (s .pre .running)))),
+          (inl (nothing-done _ _ _ _ _ _ _ _ (c .before .no-writes .ensures) (s .pre .running)))),
       refl,
       refl,
+      c .before .no-writes .ensures,
     )
 
 pub accept-read-spec : {M : Type 1} → statement M
-accept-read-spec = tie.close (tie.spec (λ c κs. search needs) returns)
+accept-read-spec = tie.close (tie.spec (λ c κs. search needs) (λ c κs. search needs) returns)

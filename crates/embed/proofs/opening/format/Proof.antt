@@ -1,4 +1,5 @@
 -- `embed::opening::format` meets its contract. Assumes nothing.
+use native.Mathlib.Omega.{arith}
 use mathlib.Core.Path.{_≡_, sym, _∙_}
 use mathlib.Core.Bool.{true, _&&_}
 use lib.ListN.{length}
@@ -38,14 +39,14 @@ returns-2 c =
     refused-format (s .args .cells .now) (given s) (right (c .before .before .before .before .before .before .before .before .before .before)) (c .before .before .before .before .before .before .before .format .result) _ _ (c .before .before .before .before .before .before .before .format .ensures .0) (s .pre) _ (c .packed2 .ensures) (λ z. c .before .if2 .taken (c .before .before .number-of .ensures ∙ z))
 
 finish-requires : tie.Need-finish-requires
-finish-requires c κs = (c .before .before .before .before .before .before .before .before .before .before .before .before .before .before .before .before .before .before .before .before .before .before .before .before .before .before .before .before .before .before .before .before .pre .head, zero-bounded _ _ _ _ _ (c .before .before .before .before .before .before .before .before .before .clear-ram .ensures .1))
+finish-requires c κs = (c .before .before .before .before .before .before .before .before .before .before .before .before .before .before .before .before .before .before .before .before .before .before .before .before .before .before .before .before .before .before .before .before .before .pre .head, zero-bounded _ _ _ _ _ (c .before .before .before .before .before .before .before .before .before .clear-ram .ensures .2), rw (c .before .before .before .before .before .before .before .before .before .clear-ram .ensures .1, c .before .before .before .before .before .before .before .before .before .before .before .before .before .before .no-writes .ensures) (omega arith, omega arith))
 
 returns-3 : tie.Need-returns-3
 returns-3 c =
-    let s = c .before .before .before .before .before .before .before .before .before .before .before .before .before .before .before .before .before .before .before .before .before .before .before .before .before .before .before .before .before .before .before .before .before .before .before in
+    let s = c .before .before .before .before .before .before .before .before .before .before .before .before .before .before .before .before .before .before .before .before .before .before .before .before .before .before .before .before .before .before .before .before .before .before .before .before in
     let e = c .before .before .finish .ensures in
     let z = c .before .before .before .before .before .before .before .before .before .before .before .before .clear-ram .ensures in
-    done-format (s .args .cells .now) (given s) (right (c .before .before .before .before .before .before .before .before .before .before .before .before .before .before .before .before .before .before .before .before .before .before .before .before .before .before)) (c .before .before .before .before .before .before .before .before .before .before .before .before .before .before .before .before .before .before .before .before .before .before .before .format .result) _ _ (c .before .before .before .before .before .before .before .before .before .before .before .before .before .before .before .before .before .before .before .before .before .before .before .format .ensures .0) (sym (c .before .before .before .before .before .before .before .before .before .before .before .before .before .before .before .before .before .before .number-of .ensures) ∙ c .before .before .before .before .before .before .before .before .before .before .before .before .before .before .before .before .before .if2 .left) _ (z .0) _ _ _ _ _ (z .1) (e .1) _ (e .0)
+    done-format (s .args .cells .now) (given s) (right (c .before .before .before .before .before .before .before .before .before .before .before .before .before .before .before .before .before .before .before .before .before .before .before .before .before .before .before)) (c .before .before .before .before .before .before .before .before .before .before .before .before .before .before .before .before .before .before .before .before .before .before .before .before .format .result) _ _ (c .before .before .before .before .before .before .before .before .before .before .before .before .before .before .before .before .before .before .before .before .before .before .before .before .format .ensures .0) (sym (c .before .before .before .before .before .before .before .before .before .before .before .before .before .before .before .before .before .before .before .number-of .ensures) ∙ c .before .before .before .before .before .before .before .before .before .before .before .before .before .before .before .before .before .before .if2 .left) _ (z .0) (z .1 ∙ c .before .before .before .before .before .before .before .before .before .before .before .before .before .before .before .before .before .no-writes .ensures) _ _ _ _ _ (z .2) (e .1) _ (e .0)
 
 pub format-spec : {M : Type 1} → statement M
 format-spec =
@@ -61,12 +62,13 @@ format-spec =
     (λ c. search needs)
     returns-2
     (λ c κs. search needs)
+    (λ c κs. search needs)
     finish-requires
     (λ c. search needs)
     (λ c. search needs)
     (λ c. search needs)
     (λ c. search needs)
     (λ c. search needs)
-    (λ c. search needs)
+    (λ c. c .before .before .before .before .before .before .before .before .before .before .before .before .before .before .before .before .before .before .before .before .before .before .before .before .format .kept .1 .0)
     (λ c. search needs)
     returns-3)

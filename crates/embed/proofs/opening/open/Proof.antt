@@ -44,7 +44,7 @@ open-requires c κs =
     }
 
 finish-requires : tie.Need-finish-requires
-finish-requires c κs = (c .before .before .before .before .before .before .before .before .before .before .before .before .before .before .before .before .before .before .before .before .before .before .before .before .before .before .before .pre .head, c .before .before .before .before .before .before .before .before .before .before .before .«open» .ensures .bounded)
+finish-requires c κs = (c .before .before .before .before .before .before .before .before .before .before .before .before .before .before .before .before .before .before .before .before .before .before .before .before .before .before .before .pre .head, c .before .before .before .before .before .before .before .before .before .before .before .«open» .ensures .bounded, c .before .before .before .before .before .before .before .before .before .before .before .«open» .ensures .few)
 
 returns-2 : tie.Need-returns-2
 returns-2 c =

@@ -62,7 +62,7 @@ accept-flush-requires c κs =
     (rw (c .before .before .before .before .before .before .before .before .before .before .before .control-in .ensures, c .before .before .before .before .before .before .before .before .before .counts-in .ensures) (accepts (call s) (given s) (long s) (stored .0) (free (c .before .before .before .before .before .before))), stored .1)
 
 finish-requires : tie.Need-finish-requires
-finish-requires c κs = let s = c .before .before .before .before .before .before .before .before .before .before .before .before .before .before .before .before .before .before .before .before .before .before .before .before .before .before .before .before .before .before .before .before .before .before .before .before in (long s .head, (c .before .before .before .before .before .before .before .before .before .before .before .before .before .accept-flush .ensures) .bounded)
+finish-requires c κs = let s = c .before .before .before .before .before .before .before .before .before .before .before .before .before .before .before .before .before .before .before .before .before .before .before .before .before .before .before .before .before .before .before .before .before .before .before .before in (long s .head, (c .before .before .before .before .before .before .before .before .before .before .before .before .before .accept-flush .ensures) .bounded, (c .before .before .before .before .before .before .before .before .before .before .before .before .before .accept-flush .ensures) .few)
 
 returns-3 : tie.Need-returns-3
 returns-3 c =

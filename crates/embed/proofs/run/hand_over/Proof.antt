@@ -61,7 +61,7 @@ accept-hand-over-requires c κs =
     rw (c .before .before .before .before .before .before .before .before .before .before .before .before .control-in .ensures, c .before .before .before .before .before .before .before .before .before .before .counts-in .ensures) (accepts (call s) (given s) (long s) (stored .0) (free (c .before .before .before .before .before)))
 
 finish-requires : tie.Need-finish-requires
-finish-requires c κs = let s = c .before .before .before .before .before .before .before .before .before .before .before .before .before .before .before .before .before .before .before .before .before .before .before .before .before .before .before .before .before .before .before .before .before .before .before in (long s .head, (c .before .before .before .before .before .before .before .before .before .before .before .accept-hand-over .ensures (s .args .charts .now)) .bounded)
+finish-requires c κs = let s = c .before .before .before .before .before .before .before .before .before .before .before .before .before .before .before .before .before .before .before .before .before .before .before .before .before .before .before .before .before .before .before .before .before .before .before in (long s .head, (c .before .before .before .before .before .before .before .before .before .before .before .accept-hand-over .ensures (s .args .charts .now)) .bounded, (c .before .before .before .before .before .before .before .before .before .before .before .accept-hand-over .ensures (s .args .charts .now)) .few)
 
 returns-3 : tie.Need-returns-3
 returns-3 c =

@@ -1,5 +1,5 @@
 -- `embed::run::read` meets its contract. Assumes nothing.
-use mathlib.Core.Path.{_≡_, sym, _∙_}
+use mathlib.Core.Path.{_≡_, ap, sym, _∙_}
 use mathlib.Core.Bool.{true, _&&_}
 use lib.ListN.{length}
 use lib.Dec.{eqb}
@@ -7,7 +7,7 @@ use borrow.Author.Tests.{not-true, not-false}
 use Rattle.book.specs.Limits.{logLength, chartsLength}
 use Rattle.book.specs.Calls.{Call, Typed}
 use Rattle.tables_model.specs.Layout.{entries}
-use Rattle.state.specs.Answers.{numberAndValue}
+use Rattle.state.specs.Answers.{numberAndValue, rowsAndPages}
 use Rattle.book.specs.Book.{refusedBy}
 use Rattle.state.specs.World.{rightLengths}
 use Rattle.embed_model.specs.Arrays.{Arrays, arrays, worldIn, RamLengths}
@@ -68,7 +68,7 @@ returns-3 c =
     let control = c .before .before .before .before .before .before .before .before .before .before .before .before .control-in .ensures in
     let counts = c .before .before .before .before .before .before .before .before .before .before .counts-in .ensures in
     let left = rw (control, counts) at (e .0 (s .args .charts .now)) in
-    read-call (call s) (typed s) (given s) (right (c .before .before .before .before .before .before .before .before .before .before .before .before .before .before)) (free (c .before .before .before .before .before .before .before)) _ left _ (c .packed3 .ensures) (e .1 ∙ control, e .2 ∙ counts) (long s)
+    read-call (call s) (typed s) (given s) (right (c .before .before .before .before .before .before .before .before .before .before .before .before .before .before)) (free (c .before .before .before .before .before .before .before)) _ left _ (c .packed3 .ensures .0, c .packed3 .ensures .1 ∙ sym (ap rowsAndPages (e .3))) (e .1 ∙ control, e .2 ∙ counts) (long s)
 
 pub read-spec : {M : Type 1} → statement M
 read-spec =

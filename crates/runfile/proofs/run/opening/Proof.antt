@@ -1,10 +1,14 @@
 -- `runfile::run::opening` meets its contract. Assumes nothing.
 use borrow.Author.Needs.{needs}
 use Rattle.state.specs.World.{allowance}
-use Rattle.runfile.proofs.Steps.{open-answers}
+use Rattle.runfile.proofs.Steps.{open-answers, opened-few}
 use Rattle.runfile.proofs.Along.{plays-one}
 use Rattle.runfile.proofs.run.opening.Statement.{statement}
 use Rattle.runfile.proofs.run.opening.Tie as tie
+
+tell-requires : tie.Need-tell-requires
+tell-requires c κs =
+    let few = opened-few _ _ _ (c .before .before .before .before .before .before .before .open-on .ensures .post) in (search needs, search needs, search needs, few)
 
 returns : tie.Need-returns
 returns c =
@@ -19,7 +23,7 @@ opening-spec =
     tie.close
     (tie.spec
     (λ c κs. search needs)
-    (λ c κs. search needs)
+    tell-requires
     (λ c. search needs)
     (λ c. search needs)
     (λ c. search needs)

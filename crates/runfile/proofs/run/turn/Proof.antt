@@ -1,9 +1,13 @@
 -- `runfile::run::turn` meets its contract. Assumes nothing.
 use borrow.Author.Needs.{needs}
-use Rattle.runfile.proofs.Steps.{call-answers}
+use Rattle.runfile.proofs.Steps.{call-answers, called-few}
 use Rattle.runfile.proofs.Along.{plays-one}
 use Rattle.runfile.proofs.run.turn.Statement.{statement}
 use Rattle.runfile.proofs.run.turn.Tie as tie
+
+tell-requires : tie.Need-tell-requires
+tell-requires c κs =
+    let few = called-few _ _ _ (c .before .before .before .before .before .before .before .call-on .ensures .post) in (search needs, search needs, search needs, few)
 
 returns : tie.Need-returns
 returns c =
@@ -19,7 +23,7 @@ turn-spec =
     (tie.spec
     (λ c κs. search needs)
     (λ c κs. search needs)
-    (λ c κs. search needs)
+    tell-requires
     (λ c. search needs)
     (λ c. search needs)
     (λ c. search needs)

@@ -11,6 +11,7 @@ returns c =
     let long = c .before .before .before .before .before .before .before .before .before .before .before .before .before .before .before .before .before .before .before .before .before .pre in
     let zero : (n m : ℕ) → n ≡ m → replicate {A = ℕ} n 0 ≡ replicate m 0 = λ n m e. rw e in (
       refl,
+      refl,
       record {
         control = refl;
         counts = c .no-counts .ensures;

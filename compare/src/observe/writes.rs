@@ -1,15 +1,45 @@
-//! Where power failed in a call or an opening.
+//! The stored writes that an answer counts: all of a call that is done, and those that landed before power
+//! failed. So what is met here was met by counts that were compared, and not by a cut alone.
 
 use super::{last_on_page, Moment};
 use crate::cover::Cover;
 use crate::paper::Ledger;
 use crate::steps::place;
-use crate::store::Call;
+use crate::store::{Call, Writes};
+
+/// A call that was done. It found the store as in `before`.
+pub fn done_call(cover: &mut Cover, call: Call, before: &Moment, writes: Writes) {
+    let place = place(call);
+    let Writes { rows, pages } = writes;
+    match call {
+        // Their own row waits: what they store are rows of other calls.
+        Call::Begin | Call::Change { .. } | Call::HandOver { .. } => {
+            cover.writes_if(rows == 64, place, "full tail stored first");
+        }
+        Call::Commit { .. } => {
+            cover.writes_if(rows == 1, place, "its own row stored");
+            cover.writes_if(rows > 1, place, "rows that waited stored too");
+            cover.writes_if(rows == 65 && before.waiting == 64, place, "full tail stored first");
+        }
+        Call::Abort { .. } => {
+            let full = before.waiting == 64;
+            cover.writes_if(rows > 0 && full, place, "full tail stored first");
+            cover.writes_if(rows > 0 && !full, place, "tail that it has filled stored");
+            cover.writes_if(rows > 64, place, "more than 64 rows stored");
+        }
+        Call::Force => cover.writes_if(rows > 0, place, "rows stored"),
+        Call::FlushPage { .. } => {
+            cover.writes_if(rows > 0 && pages == 1, place, "rows and its page stored");
+            cover.writes_if(rows == 0 && pages == 1, place, "its page stored");
+        }
+        Call::Read { .. } => {}
+    }
+}
 
 /// A call during which power failed. It found the store as in `before`.
-pub fn call(cover: &mut Cover, call: Call, before: &Moment, stored: usize) {
+pub fn cut_call(cover: &mut Cover, call: Call, before: &Moment, writes: Writes) {
     let place = place(call);
-    let landed = stored - before.stored;
+    let landed = usize::from(writes.rows);
     cover.writes_if(landed == 0, place, "cut at the first write");
     match call {
         Call::Begin | Call::Change { .. } | Call::HandOver { .. } => {
@@ -24,6 +54,7 @@ pub fn call(cover: &mut Cover, call: Call, before: &Moment, stored: usize) {
         Call::Abort { .. } => {
             cover.writes_if(landed > 0 && landed < 64, place, "cut between rows of a full tail");
             cover.writes_if(landed > before.waiting, place, "cut after some of its undo rows");
+            cover.writes_if(landed > 64, place, "cut after more than 64 rows");
         }
         Call::Force => cover.writes_if(landed > 0, place, "cut between rows"),
         Call::FlushPage { page } => {
@@ -41,8 +72,9 @@ pub fn call(cover: &mut Cover, call: Call, before: &Moment, stored: usize) {
     }
 }
 
-/// An opening during which power failed after so many rows. The log that it found comes to `found`.
-pub fn opening(cover: &mut Cover, found: &Ledger, landed: usize) {
+/// An opening during which power failed. The log that it found comes to `found`.
+pub fn cut_opening(cover: &mut Cover, found: &Ledger, writes: Writes) {
+    let landed = usize::from(writes.rows);
     let undo_rows = found.open_changes().count();
     let all_rows = undo_rows + found.active.len();
     cover.writes_if(landed == 0, "open", "cut at the first write");
