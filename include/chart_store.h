@@ -1,9 +1,9 @@
 /*
  * The chart store of a body composition scale's base unit, for C.
  *
- * Visits add signed grams to cells through a write-ahead log, a visit can hand its changes of a cell over to another, and the power may fail at every
- * stored write. The library keeps nothing of its own: it has no global variable, asks for no memory, starts nothing and makes no system call. All that it
- * works on is lent to it for the time of one call, and is worked on where it lies:
+ * Visits add signed grams to cells through a write-ahead log, a visit can hand its changes of a cell, or all that it holds, over to another, and the power
+ * may fail at every stored write. The library keeps nothing of its own: it has no global variable, asks for no memory, starts nothing and makes no system
+ * call. All that it works on is lent to it for the time of one call, and is worked on where it lies:
  *
  *   ram     a chart_ram, 3,040 bytes. It may hold anything before chart_format or chart_open.
  *   log     CHART_LOG_LENGTH bytes that keep their contents without power: the stored log, 4,096 rows of 16 bytes.
@@ -63,7 +63,7 @@ extern "C" {
 #endif
 
 /* Of this header. The archive does not know it: link the two from one version. */
-#define CHART_VERSION 2
+#define CHART_VERSION 3
 
 /* ---- Limits ---- */
 
@@ -136,8 +136,8 @@ enum {
     CHART_NOT_ACTIVE = 9,      /* the visit is not active */
     CHART_NO_SUCH_CELL = 10,   /* the cell is above 223 */
     CHART_SCOPES_USED_UP = 11, /* change: 64 scopes are in use */
-    CHART_SAME_VISIT = 12,     /* hand over: giver and receiver are the same visit */
-    CHART_HOLDS_NONE = 13,     /* hand over: the giver holds no change of the cell */
+    CHART_SAME_VISIT = 12,     /* hand over, hand over all: giver and receiver are the same visit */
+    CHART_HOLDS_NONE = 13,     /* hand over: the giver holds no change of the cell; hand over all: it holds no change at all */
     CHART_NO_SUCH_PAGE = 14    /* flush: the page is above 31 */
 };
 
@@ -157,7 +157,7 @@ static inline const char *chart_text(int number) {
     case CHART_NO_SUCH_CELL: return "there is no such cell";
     case CHART_SCOPES_USED_UP: return "all 64 scopes are in use";
     case CHART_SAME_VISIT: return "giver and receiver are the same visit";
-    case CHART_HOLDS_NONE: return "the giver holds no change of the cell";
+    case CHART_HOLDS_NONE: return "the giver holds no change to hand over";
     case CHART_NO_SUCH_PAGE: return "there is no such page";
     default: return "not a number of this store";
     }
@@ -176,6 +176,7 @@ chart_answer chart_open_on(CHART_ARRAYS, uint32_t fuse);
 chart_answer chart_begin_on(CHART_ARRAYS);
 chart_answer chart_change_on(CHART_ARRAYS, uint16_t visit, uint8_t cell, int16_t amount);
 chart_answer chart_hand_over_on(CHART_ARRAYS, uint16_t giver, uint16_t receiver, uint8_t cell);
+chart_answer chart_hand_over_all_on(CHART_ARRAYS, uint16_t giver, uint16_t receiver);
 chart_answer chart_commit_on(CHART_ARRAYS, uint16_t visit);
 chart_answer chart_abort_on(CHART_ARRAYS, uint16_t visit);
 chart_answer chart_force_on(CHART_ARRAYS);
@@ -215,6 +216,12 @@ static inline chart_answer chart_change(const chart_store *s, uint16_t visit, ui
  * Refusals 1, 5, 9, 12, 10, 13, 8. */
 static inline chart_answer chart_hand_over(const chart_store *s, uint16_t giver, uint16_t receiver, uint8_t cell) {
     return chart_hand_over_on(CHART_OF(s), giver, receiver, cell);
+}
+
+/* The receiver becomes the holder of all changes that the giver holds, of whichever cells: the same as chart_hand_over for each of these cells, by a single
+ * row. Value: the row's number. Refusals 1, 5, 9, 12, 13, 8. */
+static inline chart_answer chart_hand_over_all(const chart_store *s, uint16_t giver, uint16_t receiver) {
+    return chart_hand_over_all_on(CHART_OF(s), giver, receiver);
 }
 
 /* Commits the visit: once this has answered done, all changes that it holds last, whatever happens to the power. Value: the row's number.

@@ -18,6 +18,8 @@ pub enum Call {
     Change(u16, u8, i16),
     /// Giver, receiver and cell.
     HandOver(u16, u16, u8),
+    /// Giver and receiver.
+    HandOverAll(u16, u16),
     Commit(u16),
     Abort(u16),
     Force,
@@ -101,6 +103,12 @@ impl Efficient {
     }
 
     #[inline(never)]
+    fn hand_over_all(&mut self, giver: u16, receiver: u16) -> Answer {
+        let (ram, mut lent) = self.lent();
+        fast::hand_over_all(ram, &mut lent, giver, receiver)
+    }
+
+    #[inline(never)]
     fn commit(&mut self, visit: u16) -> Answer {
         let (ram, mut lent) = self.lent();
         fast::commit(ram, &mut lent, visit)
@@ -148,6 +156,7 @@ macro_rules! charts {
                     Call::Begin => self.begin(),
                     Call::Change(visit, cell, amount) => self.change(visit, cell, amount),
                     Call::HandOver(giver, receiver, cell) => self.hand_over(giver, receiver, cell),
+                    Call::HandOverAll(giver, receiver) => self.hand_over_all(giver, receiver),
                     Call::Commit(visit) => self.commit(visit),
                     Call::Abort(visit) => self.abort(visit),
                     Call::Force => self.force(),

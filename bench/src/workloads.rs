@@ -7,13 +7,14 @@ use compare::store::CELLS;
 pub type Workload = fn(&mut Script);
 
 /// All workloads by their names, in the order of the reports.
-pub const WORKLOADS: [(&str, Workload); 24] = [
+pub const WORKLOADS: [(&str, Workload); 25] = [
     ("format", format),
     ("read", read),
     ("begin", begin),
     ("change, a new scope", change_new_scope),
     ("change, in a scope", change_in_scope),
     ("hand over", hand_over),
+    ("hand over of a whole visit, 8 scopes", hand_over_all),
     ("commit", |script| ends(script, Commit)),
     ("abort of one change", |script| ends(script, Abort)),
     ("force of 64 rows", force),
@@ -119,6 +120,14 @@ fn hand_over(script: &mut Script) {
     for _ in 0..100 {
         script.measure((0..8).map(|cell| HandOver(1, 2, cell)));
         script.measure((0..8).map(|cell| HandOver(2, 1, cell)));
+    }
+}
+
+fn hand_over_all(script: &mut Script) {
+    script.prepare([Begin, Begin]);
+    script.prepare(changes_of(8, 8));
+    for _ in 0..800 {
+        script.measure([HandOverAll(1, 2), HandOverAll(2, 1)]);
     }
 }
 

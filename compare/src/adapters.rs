@@ -52,6 +52,7 @@ impl Store for Paper {
             Call::Begin => self.begin(),
             Call::Change { visit, cell, amount } => self.change(visit, cell, amount),
             Call::HandOver { giver, receiver, cell } => self.hand_over(giver, receiver, cell),
+            Call::HandOverAll { giver, receiver } => self.hand_over_all(giver, receiver),
             Call::Commit { visit } => self.commit(visit),
             Call::Abort { visit } => self.abort(visit),
             Call::Force => self.force(),
@@ -180,6 +181,7 @@ impl Store for FastStore {
             Call::HandOver { giver, receiver, cell } => {
                 fast::hand_over(ram, lent, giver, receiver, cell)
             }
+            Call::HandOverAll { giver, receiver } => fast::hand_over_all(ram, lent, giver, receiver),
             Call::Commit { visit } => fast::commit(ram, lent, visit),
             Call::Abort { visit } => fast::abort(ram, lent, visit),
             Call::Force => fast::force(ram, lent),
@@ -313,7 +315,7 @@ impl Store for FastStore {
         }
         for row in self.ram.tail.chunks_exact_mut(16) {
             rng.fill(row);
-            row[0] = rng.below(8) as u8;
+            row[0] = rng.below(9) as u8;
             row[1] = rng.below(18) as u8;
         }
         self.ram.fuse = match rng.below(3) {

@@ -111,7 +111,7 @@ impl<'a> Arena<'a> {
         if (answer.number, answer.value) != (number, value) {
             let answer = report::answer(answer);
             return self
-                .differs(format!("document 01 has {number} {value}, the stores answer {answer}"));
+                .differs(format!("the documents have {number} {value}, the stores answer {answer}"));
         }
         Ok(())
     }
@@ -120,8 +120,7 @@ impl<'a> Arena<'a> {
     pub fn expect_line(&mut self, step: Step, expected: &str) -> Outcome<()> {
         let answer = report::answer(self.step(step)?);
         if answer != expected {
-            return self
-                .differs(format!("documents 01 and 02 have {expected}, the stores answer {answer}"));
+            return self.differs(format!("the documents have {expected}, the stores answer {answer}"));
         }
         Ok(())
     }

@@ -16,6 +16,8 @@ pub mod sessions;
 pub mod short;
 pub mod text;
 pub mod twelve;
+pub mod whole_visit_rows;
+pub mod whole_visits;
 
 use crate::bench::{Bench, Failure};
 
@@ -45,7 +47,7 @@ pub const PARTS: [Part; 15] = [
     Part {
         name: "sessions",
         about: "random sessions with cuts, arbitrary RAM and wrong lengths",
-        seeds: [1_500, 25_000],
+        seeds: [1_650, 25_000],
         play: sessions::play,
     },
     Part {
@@ -60,47 +62,47 @@ pub const PARTS: [Part; 15] = [
         seeds: [row_bytes::COUNT; 2],
         play: row_bytes::play,
     },
-    Part { name: "damage", about: "damaged logs and pages", seeds: [800, 8_000], play: damage::play },
+    Part { name: "damage", about: "damaged logs and pages", seeds: [880, 8_000], play: damage::play },
     Part {
         name: "garbage",
         about: "arbitrary states, tables and buffers",
-        seeds: [600, 6_000],
+        seeds: [660, 6_000],
         play: garbage::play,
     },
     Part {
         name: "run files",
         about: "run files, right and wrong",
-        seeds: [1_000, 10_000],
+        seeds: [1_100, 10_000],
         play: runfiles::play,
     },
     Part {
         name: "cuts",
         about: "power failing at every write of calls and openings",
-        seeds: [12, 200],
+        seeds: [32, 260],
         play: cuts::play,
     },
     Part {
         name: "full tails",
         about: "full tails, and power failing while they are stored",
-        seeds: [140, 1_400],
+        seeds: [192, 1_600],
         play: full_tails::play,
     },
     Part {
         name: "crowded",
         about: "stores at several limits at once, calls with arguments at theirs",
-        seeds: [56, 320],
+        seeds: [72, 320],
         play: crowded::play,
     },
     Part {
         name: "all visits",
         about: "sessions that use up the visits",
-        seeds: [6, 80],
+        seeds: [8, 80],
         play: limits::all_visits,
     },
     Part {
         name: "all scopes",
         about: "sessions that use up the scopes",
-        seeds: [60, 800],
+        seeds: [72, 800],
         play: limits::all_scopes,
     },
     Part {
@@ -112,7 +114,7 @@ pub const PARTS: [Part; 15] = [
     Part {
         name: "full log",
         about: "sessions that fill the log",
-        seeds: [2, 20],
+        seeds: [4, 20],
         play: limits::full_log,
     },
 ];

@@ -3,7 +3,7 @@
 //!
 //! It holds for a formatted store whose memory nobody else writes.
 
-use crate::paper::{get_cell, rows_of, Row, ABORT, CHANGE, COMMIT, HAND_OVER, UNDO};
+use crate::paper::{get_cell, rows_of, Row, ABORT, CHANGE, COMMIT, HAND_OVER, HAND_OVER_ALL, UNDO};
 use std::collections::BTreeSet;
 
 pub struct Demands {
@@ -97,9 +97,14 @@ impl Demands {
     }
 }
 
-/// "A last holder is the holder after its last row."
+/// "A last holder is the holder after its last row." A hand-over of all that a visit holds is one of each
+/// change that it holds.
 fn last_holder(rows: &[Row], change: &Row) -> u16 {
     let later = &rows[usize::from(change.number)..];
-    let hand_overs = later.iter().filter(|row| row.kind == HAND_OVER && row.cell == change.cell);
+    let concerns = |row: &&Row| match row.kind {
+        HAND_OVER => row.cell == change.cell,
+        kind => kind == HAND_OVER_ALL,
+    };
+    let hand_overs = later.iter().filter(concerns);
     hand_overs.fold(change.visit, |holder, row| if row.visit == holder { row.receiver } else { holder })
 }

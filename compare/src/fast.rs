@@ -15,7 +15,7 @@ use crate::store::{Answer, Scope, Writes, CELLS, RIGHT};
 use charts::{bad_page, get_cell, redo, set_cell, PAGES};
 use journal::{append, force_all, lose_ram, store_page, Stopped};
 use recovery::{check_log, roll_back};
-use rows::{Row, Rows, BEGIN, CHANGE, COMMIT, HAND_OVER, ROW, ROWS};
+use rows::{Row, Rows, BEGIN, CHANGE, COMMIT, HAND_OVER, HAND_OVER_ALL, ROW, ROWS};
 use tables::{MOST_ACTIVE, MOST_SCOPES, MOST_VISITS};
 
 pub use tables::Tables;
@@ -248,6 +248,28 @@ pub fn hand_over(ram: &mut Ram, lent: &mut Lent, giver: u16, receiver: u16, cell
         return refused(8);
     }
     let row = Row { kind: HAND_OVER, visit: giver, receiver, cell, ..Row::default() };
+    let result = append(ram, lent, row);
+    finish(ram, lent, result)
+}
+
+pub fn hand_over_all(ram: &mut Ram, lent: &mut Lent, giver: u16, receiver: u16) -> Answer {
+    let room = match room(ram, lent) {
+        Ok(room) => room,
+        Err(Refused(number)) => return refused(number),
+    };
+    if !ram.tables.is_active(giver) || !ram.tables.is_active(receiver) {
+        return refused(9);
+    }
+    if giver == receiver {
+        return refused(12);
+    }
+    if !ram.tables.holds_any(lent.scopes, giver) {
+        return refused(13);
+    }
+    if room < 1 {
+        return refused(8);
+    }
+    let row = Row { kind: HAND_OVER_ALL, visit: giver, receiver, ..Row::default() };
     let result = append(ram, lent, row);
     finish(ram, lent, result)
 }

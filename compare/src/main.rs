@@ -1,7 +1,7 @@
 //! `compare` plays all cases on the paper's store and on every other implementation, and compares
 //! answers, logs, charts, copies, scopes and states after each call.
 //!
-//!     compare                       all cases, under a minute
+//!     compare                       all cases, about a minute
 //!     compare --long                many more, some ten minutes
 //!     compare --part NAME           the cases of one part
 //!     compare --part NAME SEED      one case

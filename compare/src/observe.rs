@@ -2,6 +2,7 @@
 
 pub mod conditions;
 pub mod openings;
+mod whole_visits;
 mod writes;
 
 use crate::cover::Cover;
@@ -61,8 +62,10 @@ pub fn call(
     let label = match (answer.number, call) {
         (5, _) if before.open => "5 cut".into(),
         (5, _) => "5 closed".into(),
-        (9, Call::HandOver { giver, .. }) if !before.ledger.is_active(giver) => "9 giver".into(),
-        (9, Call::HandOver { .. }) => "9 receiver".into(),
+        (9, Call::HandOver { giver, .. } | Call::HandOverAll { giver, .. }) => {
+            let of_giver = !before.ledger.is_active(giver);
+            if of_giver { "9 giver" } else { "9 receiver" }.into()
+        }
         (number, _) => label(number, lent),
     };
     cover.answer(place(call), label);
@@ -74,11 +77,17 @@ pub fn call(
         match call {
             Call::Begin => cover.shape_if(lacks_one(2), "begin with one free row too few"),
             Call::Change { .. } => cover.shape_if(lacks_one(2), "change with one free row too few"),
+            Call::HandOverAll { .. } => {
+                cover.shape_if(lacks_one(1), "hand-over of a whole visit with one free row too few")
+            }
             _ => cover.shape_if(lacks_one(1), "hand-over with one free row too few"),
         }
     }
     if answer.number == 5 && before.open {
         writes::cut_call(cover, call, before, answer.writes);
+        let landed = before.stored + usize::from(answer.writes.rows);
+        let lost = whole_visits::stays_with_giver(&before.ledger, landed);
+        cover.shape_if(lost, "cut that leaves a whole visit with its giver");
     }
     if answer.number == 0 {
         cover.shape_if(before.fuse == Some(0), "call done with the fuse used up");
@@ -109,6 +118,7 @@ fn done(cover: &mut Cover, call: Call, before: &Moment, after: &Moment) {
             cover.shape_if(in_use == 64, "scope grown while sixty-four are in use");
             let holds_own = changes.any(|c| c.maker == visit && c.cell == cell && c.holder == visit);
             cover.shape_if(holds_own && starts, "change after the cell was handed over and back");
+            whole_visits::change(cover, ledger, visit, cell);
             cover.shape_if(leaves_free(2), "change with just enough free rows");
         }
         Call::HandOver { giver, receiver, cell } => {
@@ -116,11 +126,19 @@ fn done(cover: &mut Cover, call: Call, before: &Moment, after: &Moment) {
             cover.shape_if(goes_back, "hand-over back to the maker");
             cover.shape_if(leaves_free(1), "hand-over with just enough free rows");
         }
+        Call::HandOverAll { giver, receiver } => {
+            whole_visits::handed_over(cover, before, giver, receiver);
+            cover.shape_if(leaves_free(1), "hand-over of a whole visit with just enough free rows");
+        }
         Call::Commit { visit } => {
             let received = changes.any(|c| c.holder == visit && c.maker != visit);
             cover.shape_if(received, "commit of a received change");
+            let of_whole = whole_visits::has_received(ledger, visit);
+            cover.shape_if(of_whole, "commit of what came with a whole visit");
         }
-        Call::Abort { .. } => {
+        Call::Abort { visit } => {
+            let of_whole = whole_visits::has_received(ledger, visit);
+            cover.shape_if(of_whole, "abort of what came with a whole visit");
             undo_rows(cover, &after.ledger.rows, new);
             cover.shape_if(new.len() > 64, "abort of more than 64 rows");
             let fills = new.len() > 1 && after.ledger.free() == 0;

@@ -5,9 +5,11 @@
 //! but what 01 keeps: stored log, stored charts, copy, tail, fuse, and whether the store is open.
 //! Active visits, holders, open changes, reserve, free rows and scopes are worked out from the list
 //! of rows anew in every call; there is no scope table, and the one counter is that of the stored
-//! writes of the call that runs, which its answer takes with it ("02", request L1).
+//! writes of the call that runs, which its answer takes with it (document 02, "02", request L1). Where
+//! a part renders words of 02 it names the request.
 
 use crate::store::{Answer, Lengths, Scope, Writes, CELLS, RIGHT};
+use std::collections::BTreeSet;
 
 // ---------------------------------------------------------------------------------- the store
 
@@ -74,11 +76,15 @@ pub const HAND_OVER: u8 = 3;
 pub const UNDO: u8 = 4;
 pub const COMMIT: u8 = 5;
 pub const ABORT: u8 = 6;
+/// 02, L2: "A row of kind 7 with giver and receiver, cell zero, means the hand-over of every cell of
+/// which the giver holds a change."
+pub const HAND_OVER_ALL: u8 = 7;
 
 /// "Every byte not named for a kind is zero. A constant table says, for each kind and byte, whether
-/// it may be other than zero." A line for each kind from 0 to 6; a dot is a byte that must be zero.
+/// it may be other than zero." A line for each kind from 0 to 7; a dot is a byte that must be zero.
 /// K kind, V visit, R receiver, C cell, N the row's own number, U row undone, A amount of change.
-const NAMED: [&[u8; ROW_BYTES]; 7] = [
+/// Kind 7 names no cell: "cell zero".
+const NAMED: [&[u8; ROW_BYTES]; 8] = [
     b"................",
     b"KV..NN..........",
     b"KV.CNN..AA......",
@@ -86,14 +92,15 @@ const NAMED: [&[u8; ROW_BYTES]; 7] = [
     b"KV.CNNUUAA......",
     b"KV..NN..........",
     b"KV..NN..........",
+    b"KVR.NN..........",
 ];
 
 #[derive(Clone, Copy, PartialEq, Eq, Debug, Default)]
 pub struct Row {
     pub kind: u8,
-    /// "visit, 1 to 255 (kind 3: giver; kind 4: holder)"
+    /// "visit, 1 to 255 (kind 3: giver; kind 4: holder)"; kind 7: giver
     pub visit: u16,
-    /// "receiver (kind 3)"
+    /// "receiver (kind 3)"; kind 7 too
     pub receiver: u16,
     /// "cell, 0 to 223 (kinds 2, 3, 4)"
     pub cell: u8,
@@ -133,15 +140,20 @@ impl Row {
     pub fn is_change_or_undo(&self) -> bool {
         self.kind == CHANGE || self.kind == UNDO
     }
+
+    /// Whether the row names a giver and a receiver.
+    pub fn is_hand_over(&self) -> bool {
+        self.kind == HAND_OVER || self.kind == HAND_OVER_ALL
+    }
 }
 
 /// "Its bytes are as in the table above", for the row with this number.
 fn bytes_as_in_table(bytes: &[u8], number: usize) -> bool {
     let row = Row::read(bytes);
-    (BEGIN..=ABORT).contains(&row.kind)
+    (BEGIN..=HAND_OVER_ALL).contains(&row.kind)
         && bytes.iter().zip(NAMED[row.kind as usize]).all(|(byte, name)| *byte == 0 || *name != b'.')
         && row.visit >= 1
-        && (row.kind != HAND_OVER || row.receiver >= 1)
+        && (!row.is_hand_over() || row.receiver >= 1)
         && usize::from(row.cell) < CELLS
         && usize::from(row.number) == number
 }
@@ -164,6 +176,15 @@ pub struct Change {
     pub undone: bool,
 }
 
+/// A hand-over of one cell: a row of kind 3 is one, a row of kind 7 as many as the giver holds cells.
+#[derive(Clone, Copy, PartialEq, Eq, Debug)]
+pub struct SingleHandOver {
+    pub row: u16,
+    pub giver: u16,
+    pub receiver: u16,
+    pub cell: u8,
+}
+
 /// A list of rows, with what the row rules define for it.
 #[derive(Clone, PartialEq, Eq, Debug, Default)]
 pub struct Ledger {
@@ -172,6 +193,9 @@ pub struct Ledger {
     pub active: Vec<u16>,
     /// All changes of the list, ascending by row.
     pub changes: Vec<Change>,
+    /// The single hand-overs that the rows count as, ascending by row. 02, L2: "Row rules, scopes and
+    /// the sum over last holders then count kind 7 as all those single hand-overs."
+    pub hand_overs: Vec<SingleHandOver>,
 }
 
 impl Ledger {
@@ -197,15 +221,9 @@ impl Ledger {
                 holder: row.visit,
                 undone: false,
             }),
-            // "A hand-over makes the receiver the holder of all changes of that cell that the giver
-            // holds, wherever they stand in the log."
-            HAND_OVER => {
-                for change in &mut self.changes {
-                    if change.cell == row.cell && change.holder == row.visit {
-                        change.holder = row.receiver;
-                    }
-                }
-            }
+            HAND_OVER => self.hand_over(&row, &[row.cell]),
+            // 02, L2: "the hand-over of every cell of which the giver holds a change".
+            HAND_OVER_ALL => self.hand_over(&row, &self.cells_held(row.visit)),
             // A change is no longer open once an undo row names it.
             UNDO => {
                 if let Ok(at) = self.changes.binary_search_by_key(&row.undone, |change| change.row) {
@@ -214,6 +232,22 @@ impl Ledger {
             }
             _ => {}
         }
+    }
+
+    /// "A hand-over makes the receiver the holder of all changes of that cell that the giver holds,
+    /// wherever they stand in the log." The row hands over each of these cells.
+    fn hand_over(&mut self, row: &Row, cells: &[u8]) {
+        for change in &mut self.changes {
+            if change.holder == row.visit && cells.contains(&change.cell) {
+                change.holder = row.receiver;
+            }
+        }
+        self.hand_overs.extend(cells.iter().map(|cell| SingleHandOver {
+            row: row.number,
+            giver: row.visit,
+            receiver: row.receiver,
+            cell: *cell,
+        }));
     }
 
     pub fn is_active(&self, visit: u16) -> bool {
@@ -254,6 +288,18 @@ impl Ledger {
         self.changes.iter().any(|change| change.holder == visit && change.cell == cell)
     }
 
+    /// "Every cell of which the giver holds a change", ascending.
+    pub fn cells_held(&self, visit: u16) -> Vec<u8> {
+        let held = self.changes.iter().filter(|change| change.holder == visit);
+        let cells: BTreeSet<u8> = held.map(|change| change.cell).collect();
+        cells.into_iter().collect()
+    }
+
+    /// "The giver holds something": a change, of whichever cell.
+    pub fn holds_something(&self, visit: u16) -> bool {
+        self.changes.iter().any(|change| change.holder == visit)
+    }
+
     /// "The highest open change of that holder."
     pub fn highest_open(&self, holder: u16) -> Option<&Change> {
         self.open_changes().rev().find(|change| change.holder == holder)
@@ -261,7 +307,26 @@ impl Ledger {
 
     /// Whether a change of this cell by this visit, put after the list, would start a scope.
     pub fn starts_scope(&self, visit: u16, cell: u8) -> bool {
-        starts_scope(&self.rows, visit, cell)
+        self.starts_scope_at(self.rows.len() as u16 + 1, visit, cell)
+    }
+
+    /// "A change of cell c by visit v starts a new scope, unless v changed c before and has not handed
+    /// c over since." The change stands, or would stand, in this row.
+    fn starts_scope_at(&self, row: u16, visit: u16, cell: u8) -> bool {
+        let before = self.changes.partition_point(|change| change.row < row);
+        let mut changes = self.changes[..before].iter().rev();
+        let Some(last) = changes.find(|change| change.maker == visit && change.cell == cell) else {
+            return true;
+        };
+        self.hands_over_between(last.row, row, visit, cell)
+    }
+
+    /// Whether the visit hands the cell over in a row between these two.
+    fn hands_over_between(&self, after: u16, before: u16, visit: u16, cell: u8) -> bool {
+        let first = self.hand_overs.partition_point(|single| single.row <= after);
+        let end = self.hand_overs.partition_point(|single| single.row < before);
+        let mut between = self.hand_overs[first..end].iter();
+        between.any(|single| single.giver == visit && single.cell == cell)
     }
 
     /// "A scope is in use while its changes' holder is active." One scope for each change that
@@ -274,8 +339,7 @@ impl Ledger {
     }
 
     fn started(&self, change: &Change) -> bool {
-        let before = &self.rows[..usize::from(change.row) - 1];
-        starts_scope(before, change.maker, change.cell)
+        self.starts_scope_at(change.row, change.maker, change.cell)
     }
 
     /// The scopes in use, ascending by first row.
@@ -310,21 +374,7 @@ impl Ledger {
 
     /// The first hand-over of a change is by its maker, who is its first holder.
     fn handed_over_after(&self, change: &Change) -> bool {
-        self.rows[usize::from(change.row)..]
-            .iter()
-            .any(|row| row.kind == HAND_OVER && row.visit == change.maker && row.cell == change.cell)
-    }
-}
-
-/// "A change of cell c by visit v starts a new scope, unless v changed c before and has not handed c
-/// over since." The last row in which v changes c or hands it over decides.
-fn starts_scope(before: &[Row], visit: u16, cell: u8) -> bool {
-    let last = before.iter().rev().find(|row| {
-        (row.kind == CHANGE || row.kind == HAND_OVER) && row.visit == visit && row.cell == cell
-    });
-    match last {
-        Some(row) => row.kind == HAND_OVER,
-        None => true,
+        self.hands_over_between(change.row, u16::MAX, change.maker, change.cell)
     }
 }
 
@@ -336,6 +386,14 @@ pub fn is_allowed(before: &Ledger, bytes: &[u8]) -> bool {
         return false;
     }
     let row = Row::read(bytes);
+    // "two different active visits, neither with an undo row"
+    let two_visits = || {
+        row.visit != row.receiver
+            && before.is_active(row.visit)
+            && before.is_active(row.receiver)
+            && !before.bears_undo(row.visit)
+            && !before.bears_undo(row.receiver)
+    };
     match row.kind {
         // "begin: visit = begin rows so far + 1; fewer than 16 are active; free is at least reserve
         // + 2"
@@ -355,13 +413,12 @@ pub fn is_allowed(before: &Ledger, bytes: &[u8]) -> bool {
         // "hand-over: two different active visits, neither with an undo row; the giver holds a
         // change of the cell; free is at least reserve + 1"
         HAND_OVER => {
-            row.visit != row.receiver
-                && before.is_active(row.visit)
-                && before.is_active(row.receiver)
-                && !before.bears_undo(row.visit)
-                && !before.bears_undo(row.receiver)
-                && before.holds(row.visit, row.cell)
-                && before.free() >= before.reserve() + 1
+            two_visits() && before.holds(row.visit, row.cell) && before.free() >= before.reserve() + 1
+        }
+        // 02, L2: "It is accepted exactly where the two visits would be for a single cell, the giver
+        // holds something and one row is free beyond the reserve."
+        HAND_OVER_ALL => {
+            two_visits() && before.holds_something(row.visit) && before.free() >= before.reserve() + 1
         }
         // "undo: the named row is the highest open change of that holder; cell and change equal that
         // row's"
@@ -577,7 +634,7 @@ impl Paper {
         self.append(Row { kind: ABORT, visit, ..Row::default() })
     }
 
-    // --------------------------------------------------------------------------- the ten calls
+    // ------------------------------------------------------------------------------- the calls
 
     /// "Format takes 224 cells, marks 0, blank log. Power is held during it. Copy, tail and scopes
     /// end as after a power failure, and the store is closed."
@@ -677,6 +734,20 @@ impl Paper {
         refuse_if(!ledger.holds(giver, cell), 13)?;
         refuse_if(ledger.free() < ledger.reserve() + 1, 8)?;
         self.append(Row { kind: HAND_OVER, visit: giver, receiver, cell, ..Row::default() })
+    }
+
+    /// 02, L2: "It returns its row number." "Checks: 9, 12, 13, 8." As at hand over, 9 is of the giver,
+    /// then of the receiver; 13 is "the giver holds something" not being so.
+    pub fn hand_over_all(&mut self, giver: u16, receiver: u16) -> Outcome {
+        self.check_lengths()?;
+        self.check_open()?;
+        let ledger = self.ledger();
+        refuse_if(!ledger.is_active(giver), 9)?;
+        refuse_if(!ledger.is_active(receiver), 9)?;
+        refuse_if(giver == receiver, 12)?;
+        refuse_if(!ledger.holds_something(giver), 13)?;
+        refuse_if(ledger.free() < ledger.reserve() + 1, 8)?;
+        self.append(Row { kind: HAND_OVER_ALL, visit: giver, receiver, ..Row::default() })
     }
 
     /// "Commit appends its row, forces, returns the row number."

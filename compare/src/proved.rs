@@ -60,6 +60,7 @@ calls! {
     fn chart_begin_on();
     fn chart_change_on(visit: u16, cell: u8, amount: i16);
     fn chart_hand_over_on(giver: u16, receiver: u16, cell: u8);
+    fn chart_hand_over_all_on(giver: u16, receiver: u16);
     fn chart_commit_on(visit: u16);
     fn chart_abort_on(visit: u16);
     fn chart_force_on();
@@ -125,6 +126,11 @@ impl Proved {
     #[inline(never)]
     pub fn hand_over(&mut self, giver: u16, receiver: u16, cell: u8) -> Answer {
         call!(self.chart_hand_over_on(giver, receiver, cell))
+    }
+
+    #[inline(never)]
+    pub fn hand_over_all(&mut self, giver: u16, receiver: u16) -> Answer {
+        call!(self.chart_hand_over_all_on(giver, receiver))
     }
 
     #[inline(never)]
@@ -221,6 +227,7 @@ impl Store for ProvedStore {
             Call::Begin => store.begin(),
             Call::Change { visit, cell, amount } => store.change(visit, cell, amount),
             Call::HandOver { giver, receiver, cell } => store.hand_over(giver, receiver, cell),
+            Call::HandOverAll { giver, receiver } => store.hand_over_all(giver, receiver),
             Call::Commit { visit } => store.commit(visit),
             Call::Abort { visit } => store.abort(visit),
             Call::Force => store.force(),

@@ -35,7 +35,8 @@ extern "C" {
     ) -> u64;
 }
 
-/// What is asked for, in numbers: a format has the code 0, the calls those of run files, an opening 9.
+/// What is asked for, in numbers: a format has the code 0, the calls those of run files, an opening a code
+/// that no call has.
 #[derive(Clone, Copy, Default)]
 struct Asked {
     code: u8,
@@ -47,10 +48,13 @@ struct Asked {
     writes: u32,
 }
 
+/// The code of an opening. Every code that is neither a format's nor a call's is taken for one.
+const OPENING: u8 = 255;
+
 impl Asked {
     fn opening(fuse: Option<u32>) -> Asked {
         let limited = u8::from(fuse.is_some());
-        Asked { code: 9, limited, writes: fuse.unwrap_or(0), ..Asked::default() }
+        Asked { code: OPENING, limited, writes: fuse.unwrap_or(0), ..Asked::default() }
     }
 
     fn of(call: Call) -> Asked {
@@ -61,6 +65,7 @@ impl Asked {
             Call::HandOver { giver, receiver, cell } => {
                 Asked { code: 3, visit: giver, receiver, cell, ..none }
             }
+            Call::HandOverAll { giver, receiver } => Asked { code: 9, visit: giver, receiver, ..none },
             Call::Commit { visit } => Asked { code: 4, visit, ..none },
             Call::Abort { visit } => Asked { code: 5, visit, ..none },
             Call::FlushPage { page } => Asked { code: 6, cell: page, ..none },

@@ -1,7 +1,7 @@
 //! The text of reports: steps, rows, answers and scopes as a reader wants them.
 
 use crate::arena::Difference;
-use crate::paper::{Row, ABORT, BEGIN, CHANGE, COMMIT, HAND_OVER, UNDO};
+use crate::paper::{Row, ABORT, BEGIN, CHANGE, COMMIT, HAND_OVER, HAND_OVER_ALL, UNDO};
 use crate::steps::{place, Step};
 use crate::store::{Answer, Call, Scope, State, Writes};
 
@@ -83,6 +83,9 @@ pub fn call(call: Call) -> String {
         Call::HandOver { giver, receiver, cell } => {
             format!("{name}: from visit {giver} to visit {receiver}, cell {cell}")
         }
+        Call::HandOverAll { giver, receiver } => {
+            format!("{name}: from visit {giver} to visit {receiver}")
+        }
         Call::Commit { visit } | Call::Abort { visit } => format!("{name}: visit {visit}"),
         Call::FlushPage { page } => format!("{name}: page {page}"),
         Call::Read { cell } => format!("{name}: cell {cell}"),
@@ -148,6 +151,9 @@ fn row(bytes: &[u8; 16], number: u16) -> String {
         }
         HAND_OVER => {
             (format!("hand-over {visit} to {receiver} of cell {cell}"), Row { receiver, cell, ..plain })
+        }
+        HAND_OVER_ALL => {
+            (format!("hand-over {visit} to {receiver} of all cells"), Row { receiver, ..plain })
         }
         UNDO => (
             format!("undo of row {undone} for {visit}, cell {cell}: {change} g"),

@@ -7,8 +7,8 @@
 use crate::store::{Answer, Call, Store, Writes, CELLS};
 
 pub const MOST_BYTES: usize = 4_096;
-const ENTRY_BYTES: usize = 8;
-const CALL_BYTES: usize = 6;
+pub const ENTRY_BYTES: usize = 8;
+pub const CALL_BYTES: usize = 6;
 const NO_FUSE: u32 = 4_294_967_295;
 
 #[derive(Clone, PartialEq, Debug)]
@@ -46,7 +46,8 @@ pub fn parse(file: &[u8]) -> Option<Vec<Session>> {
 }
 
 /// "Codes: 1 begin, 2 change, 3 hand over, 4 commit, 5 abort, 6 flush, 7 force, 8 read; unused bytes
-/// are zero." A call is right if its bytes are those that it would be written with.
+/// are zero." 02, L2, of the hand-over of a whole visit: "The run file gets code 9." A call is right if
+/// its bytes are those that it would be written with.
 fn parse_call(bytes: &[u8]) -> Option<Call> {
     let visit = u16::from(bytes[1]);
     let receiver = u16::from(bytes[2]);
@@ -61,6 +62,7 @@ fn parse_call(bytes: &[u8]) -> Option<Call> {
         6 => Call::FlushPage { page: place },
         7 => Call::Force,
         8 => Call::Read { cell: place },
+        9 => Call::HandOverAll { giver: visit, receiver },
         _ => return None,
     };
     (write_call(call) == bytes).then_some(call)
@@ -79,6 +81,7 @@ fn write_call(call: Call) -> [u8; CALL_BYTES] {
         Call::FlushPage { page } => [6, 0, 0, page, 0, 0],
         Call::Force => [7, 0, 0, 0, 0, 0],
         Call::Read { cell } => [8, 0, 0, cell, 0, 0],
+        Call::HandOverAll { giver, receiver } => [9, giver as u8, receiver as u8, 0, 0, 0],
     }
 }
 

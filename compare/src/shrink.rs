@@ -216,10 +216,17 @@ fn without_visit(steps: &[Step], visit: u16) -> Vec<Step> {
             {
                 continue
             }
-            Call::HandOver { giver, receiver, .. } if giver == visit || receiver == visit => continue,
+            Call::HandOver { giver, receiver, .. } | Call::HandOverAll { giver, receiver }
+                if giver == visit || receiver == visit =>
+            {
+                continue
+            }
             Call::Change { visit, cell, amount } => Call::Change { visit: lower(visit), cell, amount },
             Call::HandOver { giver, receiver, cell } => {
                 Call::HandOver { giver: lower(giver), receiver: lower(receiver), cell }
+            }
+            Call::HandOverAll { giver, receiver } => {
+                Call::HandOverAll { giver: lower(giver), receiver: lower(receiver) }
             }
             Call::Commit { visit } => Call::Commit { visit: lower(visit) },
             Call::Abort { visit } => Call::Abort { visit: lower(visit) },

@@ -37,6 +37,10 @@ pub fn hand_over(giver: u16, receiver: u16, cell: u8) -> Step {
     Step::Call(Call::HandOver { giver, receiver, cell })
 }
 
+pub fn hand_over_all(giver: u16, receiver: u16) -> Step {
+    Step::Call(Call::HandOverAll { giver, receiver })
+}
+
 pub fn commit(visit: u16) -> Step {
     Step::Call(Call::Commit { visit })
 }
@@ -57,12 +61,14 @@ pub fn read(cell: u8) -> Step {
     Step::Call(Call::Read { cell })
 }
 
-/// The name of a call as 01's table of refusals has it.
+/// The name of a call as 01's table of refusals has it, and for the hand-over of a whole visit a name of
+/// its own.
 pub fn place(call: Call) -> &'static str {
     match call {
         Call::Begin => "begin",
         Call::Change { .. } => "change",
         Call::HandOver { .. } => "hand over",
+        Call::HandOverAll { .. } => "hand over all",
         Call::Commit { .. } => "commit",
         Call::Abort { .. } => "abort",
         Call::Force => "force",

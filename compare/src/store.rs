@@ -67,6 +67,7 @@ pub enum Call {
     Begin,
     Change { visit: u16, cell: u8, amount: i16 },
     HandOver { giver: u16, receiver: u16, cell: u8 },
+    HandOverAll { giver: u16, receiver: u16 },
     Commit { visit: u16 },
     Abort { visit: u16 },
     Force,

@@ -3,9 +3,12 @@
 use compare::adapters::FastStore;
 use compare::arena::{Arena, Maker};
 use compare::bench::{Bench, Failure};
+use compare::cases::sessions::{habits, next_call, Habits};
 use compare::cases::{garbage, sessions};
 use compare::cover::Cover;
-use compare::paper::{Ledger, Row, ABORT, BEGIN, CHANGE, COMMIT, HAND_OVER, UNDO};
+use compare::paper::{get_cell, Ledger, Paper, Row};
+use compare::paper::{ABORT, BEGIN, CHANGE, COMMIT, HAND_OVER, HAND_OVER_ALL, UNDO};
+use compare::prng::Rng;
 use compare::shrink::shrink;
 use compare::steps::{begin, change, open, read, Step};
 use compare::store::{Answer, Buffer, Call, Scope, State, Store, Writes};
@@ -196,11 +199,29 @@ mod said_again {
     pub fn holder(rows: &[Row], change: &Row) -> u16 {
         let mut holder = change.visit;
         for row in &rows[usize::from(change.number)..] {
-            if row.kind == HAND_OVER && row.cell == change.cell && row.visit == holder {
+            let hands_over = match row.kind {
+                HAND_OVER => row.cell == change.cell,
+                HAND_OVER_ALL => true,
+                _ => false,
+            };
+            if hands_over && row.visit == holder {
                 holder = row.receiver;
             }
         }
         holder
+    }
+
+    /// "Unless v changed c before and has not handed c over since": until v hands c over v holds what it
+    /// changed.
+    pub fn starts_scope(rows: &[Row], change: &Row) -> bool {
+        let before = &rows[..usize::from(change.number) - 1];
+        let is_own =
+            |row: &&Row| row.kind == CHANGE && row.visit == change.visit && row.cell == change.cell;
+        let Some(last) = before.iter().rev().find(is_own) else {
+            return true;
+        };
+        let mut ends = usize::from(last.number)..=before.len();
+        ends.any(|end| holder(&before[..end], last) != last.visit)
     }
 
     pub fn is_open(rows: &[Row], change: &Row) -> bool {
@@ -224,9 +245,69 @@ fn the_ledger_is_what_the_definitions_say() {
             assert_eq!(change.row, row.number);
             assert_eq!(change.holder, said_again::holder(&rows, row));
             assert_eq!(ledger.is_open(change), said_again::is_open(&rows, row));
+            let before = Ledger::of(&rows[..usize::from(row.number) - 1]);
+            let starts = before.starts_scope(row.visit, row.cell);
+            assert_eq!(starts, said_again::starts_scope(&rows, row));
         }
         assert_eq!(ledger.scopes().len(), ledger.scopes_in_use());
         let in_scopes: usize = ledger.scopes().iter().map(|scope| usize::from(scope.count)).sum();
         assert_eq!(in_scopes, ledger.open_changes().count());
     }
+}
+
+/// What the rows come to, but for their numbers: the cells, the active visits, and the scopes.
+fn meaning(store: &Paper) -> (Vec<i32>, Vec<u16>, Vec<Scope>) {
+    let ledger = store.ledger();
+    let cells = (0..224).map(|cell| get_cell(&store.copy, cell)).collect();
+    let unnumbered = |scope: &Scope| Scope { first: 0, last: 0, ..*scope };
+    let scopes = ledger.scopes().iter().map(unnumbered).collect();
+    (cells, ledger.active, scopes)
+}
+
+/// 02, L2: "Row rules, scopes and the sum over last holders then count kind 7 as all those single
+/// hand-overs." One store hands whole visits over, the other each of their cells.
+#[test]
+fn a_whole_visit_is_all_its_single_hand_overs() {
+    // Whole visits of two or more cells that were handed over. With one cell there is little to show.
+    let mut handed_over = 0;
+    for seed in 0..200 {
+        let rng = &mut Rng::new(seed);
+        let visits = rng.pick(&[2, 3, 5, 16]);
+        let cells = (0..rng.pick(&[2, 3, 12, 70])).collect();
+        // Few visits end, so that they come to hold several cells.
+        let weights = [8, 40, 8, 8, 2, 2, 1, 1, 1];
+        let habits = Habits { visits, cells, weights, ..habits(rng) };
+        let (mut whole, mut single) = (Paper::new(), Paper::new());
+        whole.open(None).ok().unwrap();
+        single.open(None).ok().unwrap();
+        for _ in 0..150 {
+            let call = next_call(rng, &habits, &whole.ledger());
+            let calls = match call {
+                Call::HandOverAll { giver, receiver } => singles(&whole.ledger(), giver, receiver),
+                other => vec![other],
+            };
+            let number = whole.call(call).number;
+            handed_over += usize::from(number == 0 && calls.len() > 1);
+            for one in calls {
+                assert_eq!(single.call(one).number, number, "seed {seed}, {call:?} by {one:?}");
+            }
+            assert_eq!(meaning(&whole), meaning(&single), "seed {seed}, {call:?}");
+        }
+        // Rows that wait are lost, and those of one store are more than those of the other.
+        for store in [&mut whole, &mut single] {
+            store.force().ok().unwrap();
+        }
+        assert_eq!(whole.open(None).ok(), single.open(None).ok(), "seed {seed}");
+        assert_eq!(meaning(&whole), meaning(&single), "seed {seed}, opened");
+    }
+    assert!(handed_over >= 560, "{handed_over} whole visits of several cells");
+}
+
+/// A hand-over of every cell that the giver holds, or of any cell where it holds none.
+fn singles(ledger: &Ledger, giver: u16, receiver: u16) -> Vec<Call> {
+    let mut cells = ledger.cells_held(giver);
+    if cells.is_empty() {
+        cells.push(0);
+    }
+    cells.into_iter().map(|cell| Call::HandOver { giver, receiver, cell }).collect()
 }

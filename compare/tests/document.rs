@@ -1,5 +1,5 @@
 //! The answers that documents 01 and 02 give: 01's twelve cases, those of its text and its run file's example,
-//! and the counts of 02's request L1.
+//! the counts of 02's request L1, and the whole visits of L2.
 
 use compare::adapters::FastStore;
 use compare::arena::{Arena, Maker};
@@ -7,6 +7,8 @@ use compare::cases::counts::COUNTS;
 use compare::cases::document::Case;
 use compare::cases::text::TEXT;
 use compare::cases::twelve::TWELVE;
+use compare::cases::whole_visit_rows::WHOLE_VISIT_ROWS;
+use compare::cases::whole_visits::WHOLE_VISITS;
 use compare::cover::Cover;
 use compare::paper::Paper;
 use compare::proved::{relog, ProvedStore};
@@ -41,6 +43,12 @@ fn cases_of_the_text() {
 #[test]
 fn counts_of_stored_writes() {
     play(&COUNTS);
+}
+
+#[test]
+fn whole_visits_handed_over() {
+    play(&WHOLE_VISITS);
+    play(&WHOLE_VISIT_ROWS);
 }
 
 fn stores() -> [Box<dyn Store>; 4] {
@@ -86,6 +94,67 @@ fn lines_of_the_example() {
     }
 }
 
+/// Two visits begin; visit 1 adds 10 g to cell 0 and 20 g to cell 7, hands all over to visit 2, tries it once
+/// more, and visit 2 commits. The second session ends visit 1 and reads cell 7.
+const WHOLE_VISIT: [&[u8]; 11] = [
+    &[2],
+    &[255, 255, 255, 255, 17, 0, 7, 0],
+    &[255, 255, 255, 255, 59, 0, 1, 0],
+    &[1, 0, 0, 0, 0, 0],
+    &[1, 0, 0, 0, 0, 0],
+    &[2, 1, 0, 0, 10, 0],
+    &[2, 1, 0, 7, 20, 0],
+    &[9, 1, 2, 0, 0, 0],
+    &[9, 1, 2, 0, 0, 0],
+    &[4, 2, 0, 0, 0, 0],
+    &[8, 0, 0, 7, 0, 0],
+];
+
+const WHOLE_VISIT_LINES: &str = "1 0 0 0 0 0
+1 1 0 1 0 0
+1 2 0 2 0 0
+1 3 0 3 0 0
+1 4 0 4 0 0
+1 5 0 5 0 0
+1 6 13 0 0 0
+1 7 0 6 6 0
+2 0 0 1 1 0
+2 1 0 20 0 0
+";
+
+#[test]
+fn lines_of_a_whole_visit() {
+    let file = WHOLE_VISIT.concat();
+    for store in stores().iter_mut() {
+        assert_eq!(run(&file, store.as_mut()), WHOLE_VISIT_LINES);
+    }
+    assert_eq!(relog(&file), WHOLE_VISIT_LINES);
+}
+
+/// Code 9 has giver and receiver and no other byte, and no code follows it.
+#[test]
+fn codes_from_9_on_that_give_15() {
+    let right = WHOLE_VISIT.concat();
+    let call = 17 + 4 * 6;
+    assert_eq!(right[call], 9);
+    for (at, byte) in [(0, 10), (0, 11), (0, 255), (3, 1), (3, 7), (4, 1), (5, 1), (5, 128)] {
+        let mut file = right.clone();
+        file[call + at] = byte;
+        assert_eq!(run(&file, &mut Paper::new()), "15\n", "byte {at} is {byte}");
+        assert_eq!(relog(&file), "15\n", "byte {at} is {byte}");
+    }
+    // The same codes with all bytes zero.
+    for code in [10, 11, 255] {
+        let file = [1, 0, 0, 0, 0, 9, 0, 1, 0, code, 0, 0, 0, 0, 0];
+        assert_eq!(run(&file, &mut Paper::new()), "15\n", "code {code}");
+        assert_eq!(relog(&file), "15\n", "code {code}");
+    }
+    // Visits that are not there are no fault of the file.
+    let file = [1, 0, 0, 0, 0, 9, 0, 1, 0, 9, 0, 255, 0, 0, 0];
+    assert_eq!(run(&file, &mut Paper::new()), "1 0 0 0 0 0\n1 1 9 0 0 0\n");
+    assert_eq!(relog(&file), "1 0 0 0 0 0\n1 1 9 0 0 0\n");
+}
+
 #[test]
 fn files_of_the_example() {
     let folder = concat!(env!("CARGO_MANIFEST_DIR"), "/example");
@@ -119,7 +188,7 @@ fn run_files_that_give_15() {
         altered(5, 18),
         altered(7, 5),
         altered(body, 0),
-        altered(body, 9),
+        altered(body, 10),
         altered(body + 1, 1),
         altered(body + 14, 1),
         altered(body + 22, 1),

@@ -120,6 +120,20 @@ int main(void) {
     expect_unchanged("format, cell 5 out of range", chart_format(s, cells, CHART_CELLS), CHART_OUT_OF_RANGE, 5);
     expect("force", chart_force(s), CHART_DONE, 0);
     expect_stored(2, 0); /* an undo row and an abort row; no row waited for the force */
+
+    /* A change of shift: all that a visit holds goes over to another, in one row. */
+    expect("begin: the dietitian's visit", chart_begin(s), CHART_DONE, 4);
+    expect("begin: her colleague's visit", chart_begin(s), CHART_DONE, 5);
+    expect("visit 4 adds 500 g to cell 7", chart_change(s, 4, 7, 500), CHART_DONE, 15);
+    expect("visit 4 adds 60 g to cell 8", chart_change(s, 4, 8, 60), CHART_DONE, 16);
+    expect("visit 4 hands all over to visit 5", chart_hand_over_all(s, 4, 5), CHART_DONE, 17);
+    expect_unchanged("once more: it holds nothing", chart_hand_over_all(s, 4, 5), CHART_HOLDS_NONE, 0);
+    expect("visit 4 aborts: it has nothing to undo", chart_abort(s, 4), CHART_DONE, 18);
+    expect("visit 5 commits: both cells last", chart_commit(s, 5), CHART_DONE, 19);
+    expect("read cell 7", chart_read(s, 7), CHART_DONE, 70150);
+    expect("read cell 8", chart_read(s, 8), CHART_DONE, 60);
+    expect_stored(7, 0); /* rows 13 to 19, by the commit */
+
     stored_log[CHART_ROW_LENGTH * 2 + 1] ^= 1;
     expect("open a log whose row 3 was altered", chart_open(s, CHART_NO_FUSE), CHART_BAD_ROW, 3);
 

@@ -113,7 +113,7 @@ fn alter(rng: &mut Rng, store: &mut dyn Store) {
     if memory {
         let rows = rng.below(4_097);
         for (index, row) in store.log_mut().chunks_exact_mut(16).take(rows).enumerate() {
-            row[0] = rng.below(7) as u8;
+            row[0] = rng.below(8) as u8;
             row[1] = rng.below(18) as u8;
             row[2] = rng.below(18) as u8;
             row[3] = rng.byte();

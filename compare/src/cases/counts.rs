@@ -114,6 +114,7 @@ pub const COUNTS: [Case; 13] = [
                 begin(),
                 change(1, 0, 1),
                 hand_over(1, 2, 0),
+                hand_over_all(1, 2),
                 commit(1),
                 abort(1),
                 force(),
@@ -224,13 +225,13 @@ pub const COUNTS: [Case; 13] = [
 ];
 
 /// A store formatted at zero and opened with this fuse.
-fn formatted(arena: &mut Arena, fuse: Option<u32>) -> Outcome<()> {
+pub fn formatted(arena: &mut Arena, fuse: Option<u32>) -> Outcome<()> {
     arena.expect_line(Step::Format(vec![0; CELLS]), "0 0 0 0")?;
     arena.expect_line(open(fuse), "0 0 0 0")
 }
 
 /// Visit 1 changes cell 0 in these rows, all of which find room in the tail.
-fn changes(arena: &mut Arena, rows: RangeInclusive<u16>) -> Outcome<()> {
+pub fn changes(arena: &mut Arena, rows: RangeInclusive<u16>) -> Outcome<()> {
     for row in rows {
         arena.expect_line(change(1, 0, 1), &format!("0 {row} 0 0"))?;
     }

@@ -6,9 +6,9 @@ use super::document::{change_row, row};
 use super::sessions::{any_call, formatted, lend};
 use crate::arena::{Arena, Outcome};
 use crate::bench::{Bench, Failure};
-use crate::paper::{BEGIN, COMMIT};
+use crate::paper::{Ledger, BEGIN, COMMIT};
 use crate::prng::Rng;
-use crate::steps::{abort, begin, change, commit, flush, force, hand_over, open, Step};
+use crate::steps::{abort, begin, change, commit, flush, force, hand_over, hand_over_all, open, Step};
 use crate::store::{Call, ROWS};
 
 /// What the store comes to before the calls at its limits.
@@ -64,7 +64,8 @@ fn ended_rows(rng: &mut Rng, crowd: &Crowd) -> Vec<[u8; 16]> {
     rows
 }
 
-/// Begins the active visits, which start the scopes, grow some of them, and hand some over.
+/// Begins the active visits, which start the scopes, grow some of them, and hand some over, the last time all
+/// that a visit holds.
 fn gather(rng: &mut Rng, arena: &mut Arena, crowd: &Crowd) -> Outcome<()> {
     let first = crowd.ended + 1;
     for _ in 0..crowd.active {
@@ -79,26 +80,33 @@ fn gather(rng: &mut Rng, arena: &mut Arena, crowd: &Crowd) -> Outcome<()> {
     for index in 0..crowd.hand_overs {
         let giver = first + index % crowd.active;
         let receiver = first + (index + 1) % crowd.active;
-        arena.step(hand_over(giver, receiver, 0))?;
+        let is_last = index + 1 == crowd.hand_overs;
+        let step = if is_last { hand_over_all(giver, receiver) } else { hand_over(giver, receiver, 0) };
+        arena.step(step)?;
     }
     Ok(())
 }
 
 /// A call of visits that are active, have ended, have not begun or are beyond a byte, on cells and pages
-/// that are held, not held, the last, or beyond it.
-fn limit_call(rng: &mut Rng, crowd: &Crowd) -> Call {
+/// that are held, not held, the last, or beyond it. `whole` says whether it may hand over a whole visit.
+fn limit_call(rng: &mut Rng, crowd: &Crowd, whole: bool) -> Call {
     let (first, last) = (crowd.ended + 1, crowd.ended + crowd.active);
     let mut visit = || rng.pick(&[first, first, last, last, first + 1, 0, 1, last + 1, 256 + first]);
     let (visit, receiver) = (visit(), visit());
     let cell = rng.pick(&[0, 0, 1, 100, 223, 224, 255]);
-    match rng.below(11) {
+    match rng.below(if whole { 14 } else { 11 }) {
         0 | 1 => Call::Begin,
         2..=4 => Call::Change { visit, cell, amount: 1 },
         5..=7 => Call::HandOver { giver: visit, receiver, cell },
         8 => Call::FlushPage { page: rng.pick(&[0, 31, 32, 255]) },
         9 => Call::Read { cell },
-        _ => Call::Force,
+        10 => Call::Force,
+        _ => Call::HandOverAll { giver: visit, receiver },
     }
+}
+
+fn holder_of_cell_0(ledger: &Ledger) -> Option<u16> {
+    ledger.open_changes().find(|change| change.cell == 0).map(|change| change.holder)
 }
 
 /// Ends all active visits in any order: most by an abort, which takes the rows of the reserve.
@@ -120,13 +128,22 @@ pub fn play(bench: &mut Bench, seed: u64) -> Result<(), Failure> {
         arena.step(Step::WriteLog(ended_rows(rng, &crowd)))?;
         arena.expect(open(None), 0, 0)?;
         gather(rng, arena, &crowd)?;
-        // The rows beyond the reserve go to a begin, to a change in a scope, or to a hand-over.
-        let (first, second) = (crowd.ended + 1, crowd.ended + 2);
-        arena.step(
-            [begin(), change(first, 0, 1), hand_over(second, first, 0)][seed as usize % 3].clone(),
-        )?;
-        for _ in 0..40 {
-            arena.step(Step::Call(limit_call(rng, &crowd)))?;
+        // The rows beyond the reserve go to a begin, to a change in a scope, or to a hand-over of a cell or of
+        // a whole visit.
+        let first = crowd.ended + 1;
+        let giver = holder_of_cell_0(arena.ledger()).unwrap_or(first);
+        let receiver = if giver == first { first + 1 } else { first };
+        let calls = [
+            begin(),
+            change(first, 0, 1),
+            hand_over(giver, receiver, 0),
+            hand_over_all(giver, receiver),
+        ];
+        arena.step(calls[seed as usize / 8 % 4].clone())?;
+        // Whole visits come last: where one is handed over with the last row beyond the reserve, no other
+        // call meets that row any more.
+        for index in 0..60 {
+            arena.step(Step::Call(limit_call(rng, &crowd, index >= 30)))?;
         }
         end_all(rng, arena)?;
         arena.step(begin())?;

@@ -1,12 +1,14 @@
-//! Cases with the answers that documents 01 and 02 give: the twelve of 01's list, those of its text, and the
-//! counts of 02's request L1.
+//! Cases with the answers that documents 01 and 02 give: the twelve of 01's list, those of its text, the
+//! counts of 02's request L1, and the whole visits of L2.
 
 use super::counts::COUNTS;
 use super::text::TEXT;
 use super::twelve::TWELVE;
+use super::whole_visit_rows::WHOLE_VISIT_ROWS;
+use super::whole_visits::WHOLE_VISITS;
 use crate::arena::{Arena, Outcome};
 use crate::bench::{Bench, Failure};
-use crate::paper::{Row, CHANGE, HAND_OVER, UNDO};
+use crate::paper::{Row, CHANGE, HAND_OVER, HAND_OVER_ALL, UNDO};
 use crate::steps::{begin, open, Step};
 use crate::store::CELLS;
 
@@ -15,11 +17,12 @@ pub struct Case {
     pub play: fn(&mut Arena) -> Outcome<()>,
 }
 
-pub const COUNT: u64 = (TWELVE.len() + TEXT.len() + COUNTS.len()) as u64;
+pub const COUNT: u64 =
+    (TWELVE.len() + TEXT.len() + COUNTS.len() + WHOLE_VISITS.len() + WHOLE_VISIT_ROWS.len()) as u64;
 
 pub fn play(bench: &mut Bench, seed: u64) -> Result<(), Failure> {
-    let mut cases = TWELVE.iter().chain(&TEXT).chain(&COUNTS);
-    if let Some(case) = cases.nth(seed as usize) {
+    let lists: [&[Case]; 5] = [&TWELVE, &TEXT, &COUNTS, &WHOLE_VISITS, &WHOLE_VISIT_ROWS];
+    if let Some(case) = lists.into_iter().flatten().nth(seed as usize) {
         bench.case(case.play)?;
     }
     Ok(())
@@ -52,5 +55,10 @@ pub fn undo_row(visit: u16, cell: u8, change: i16, undone: u16, number: u16) -> 
 
 pub fn hand_over_row(giver: u16, receiver: u16, cell: u8, number: u16) -> [u8; 16] {
     let row = Row { kind: HAND_OVER, visit: giver, receiver, cell, number, ..Row::default() };
+    row.bytes()
+}
+
+pub fn hand_over_all_row(giver: u16, receiver: u16, number: u16) -> [u8; 16] {
+    let row = Row { kind: HAND_OVER_ALL, visit: giver, receiver, number, ..Row::default() };
     row.bytes()
 }

@@ -1,16 +1,16 @@
 //! Full tails, and power failing while they are stored. As many rows wait as the tail has room for, or
 //! one less; then comes one call, which stores them first if it adds a row.
 
-use super::sessions::{formatted, habits, held_cell, next_call, Habits};
+use super::sessions::{formatted, habits, held_cell, holding_visit, next_call, Habits};
 use crate::arena::Arena;
 use crate::bench::{Bench, Failure};
 use crate::prng::Rng;
-use crate::steps::{abort, begin, change, commit, flush, force, hand_over, open, Step};
+use crate::steps::{abort, begin, change, commit, flush, force, hand_over, hand_over_all, open, Step};
 
 /// A fuse that no case uses up.
 const LONG: u32 = 1_000_000;
 /// The calls that come last, and the place of an abort among them.
-const CALLS: u64 = 7;
+const CALLS: u64 = 8;
 const ABORT: u64 = 4;
 
 pub fn play(bench: &mut Bench, seed: u64) -> Result<(), Failure> {
@@ -19,8 +19,10 @@ pub fn play(bench: &mut Bench, seed: u64) -> Result<(), Failure> {
     let rows =
         if seed % CALLS == ABORT { rng.pick(&[64, 128, 192]) } else { rng.pick(&[63, 64, 64, 64]) };
     let format = Step::Format(formatted(rng));
-    // Begins, changes and hand-overs, none of which stores a row while there is room in the tail.
-    let weights = [8, 60, 20, 0, 0, 0, 0, 0];
+    // Begins, changes and hand-overs, none of which stores a row while there is room in the tail. A visit that
+    // was handed over whole has to start its scopes anew, so half of the cases do without.
+    let whole_visits = [0, 6][(seed / CALLS % 2) as usize];
+    let weights = [8, 60, 20, whole_visits, 0, 0, 0, 0, 0];
     let habits = Habits { weights, visits: rng.pick(&[2, 3, 8]), odd: 1_000, ..habits(rng) };
     let ((before, writes), whole) = bench.case(|arena| {
         arena.step(format)?;
@@ -59,7 +61,7 @@ fn writes(arena: &Arena) -> u32 {
 /// The call after the tail has filled, one after the other with the seed.
 fn last(rng: &mut Rng, arena: &Arena, seed: u64) -> Step {
     let ledger = arena.ledger();
-    let visit = rng.pick(&ledger.active);
+    let visit = holding_visit(rng, ledger).unwrap_or_else(|| rng.pick(&ledger.active));
     let other = ledger.active.iter().copied().find(|other| *other != visit).unwrap_or(visit);
     let cell = held_cell(rng, ledger, visit).unwrap_or(0);
     match seed % CALLS {
@@ -69,6 +71,7 @@ fn last(rng: &mut Rng, arena: &Arena, seed: u64) -> Step {
         3 => commit(visit),
         ABORT => abort(visit),
         5 => force(),
+        6 => hand_over_all(visit, other),
         _ => flush(cell / 7),
     }
 }

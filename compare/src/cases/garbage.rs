@@ -44,7 +44,7 @@ fn any_rows(rng: &mut Rng) -> Vec<[u8; 16]> {
     (1..=count)
         .map(|number: u16| {
             let mut row = [0; 16];
-            row[0] = 1 + rng.below(6) as u8;
+            row[0] = 1 + rng.below(7) as u8;
             row[1] = 1 + rng.below(3) as u8;
             row[4..6].copy_from_slice(&number.to_le_bytes());
             if number == 1 {

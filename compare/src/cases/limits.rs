@@ -13,9 +13,14 @@ pub fn full_log(bench: &mut Bench, seed: u64) -> Result<(), Failure> {
         arena.step(Step::Format(formatted(rng)))?;
         let mut habits = Habits { odd: 200, visits: rng.pick(&[2, 5, 16]), ..habits(rng) };
         // So few cells that the scopes suffice.
-        habits.cells.truncate(60 / habits.visits);
-        let (hand_overs, commits) = [(1, 0), (6, 1)][seed as usize % 2];
-        habits.weights = [4, 100, hand_overs, commits, 0, 1, 1, 1];
+        let most_cells = 60 / habits.visits;
+        habits.cells.truncate(most_cells);
+        let (hand_overs, commits) = [(6, 1), (1, 0)][seed as usize % 2];
+        if hand_overs > 1 {
+            // With these the hand-overs use up the scopes, and most changes grow one.
+            habits.cells = (0..most_cells as u8).collect();
+        }
+        habits.weights = [4, 100, hand_overs, 0, commits, 0, 1, 1, 1];
         session(rng, arena, &habits, None, 300)?;
         arena.step(Step::Open(None))?;
         let mut refused = 0;
@@ -26,9 +31,9 @@ pub fn full_log(bench: &mut Bench, seed: u64) -> Result<(), Failure> {
                 break;
             }
         }
-        habits.weights = [10, 10, 60, 0, 0, 1, 1, 1];
+        habits.weights = [10, 10, 60, 10, 0, 0, 1, 1, 1];
         work(rng, arena, &habits, 40)?;
-        habits.weights = [10, 30, 30, 3, 3, 1, 1, 1];
+        habits.weights = [10, 30, 30, 15, 3, 3, 1, 1, 1];
         work(rng, arena, &habits, 60)?;
         for _ in 0..2 {
             let fuse = fuse(rng);
@@ -45,10 +50,11 @@ pub fn all_visits(bench: &mut Bench, seed: u64) -> Result<(), Failure> {
     let rng = &mut Rng::new(seed);
     bench.case(|arena| {
         arena.step(Step::Format(formatted(rng)))?;
-        let mut habits = Habits { weights: [30, 15, 15, 12, 12, 1, 1, 1], visits: 16, ..habits(rng) };
+        let mut habits =
+            Habits { weights: [30, 15, 15, 5, 12, 12, 1, 1, 1], visits: 16, ..habits(rng) };
         for _ in 0..3 {
             session(rng, arena, &habits, None, 500)?;
-            habits.weights = [30, 10, 10, 6, 6, 1, 1, 1];
+            habits.weights = [30, 10, 10, 4, 6, 6, 1, 1, 1];
         }
         for _ in 0..3 {
             let fuse = fuse(rng);
@@ -72,7 +78,7 @@ pub fn all_scopes(bench: &mut Bench, seed: u64) -> Result<(), Failure> {
             _ => (0..224).collect(),
         };
         habits.visits = rng.pick(&[2, 4, 16]);
-        habits.weights = [10, 60, 30, 1, 1, 1, 1, 1];
+        habits.weights = [10, 60, 30, rng.pick(&[0, 1, 8]), 1, 1, 1, 1, 1];
         for _ in 0..3 {
             let fuse = fuse(rng);
             session(rng, arena, &habits, fuse, 260)?;

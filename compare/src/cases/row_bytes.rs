@@ -1,13 +1,13 @@
 //! Every byte of a row, with every value: for each kind of row a log that ends with such a row, of which
 //! one byte is altered. "Every byte not named for a kind is zero."
 
-use super::document::{change_row, hand_over_row, row, undo_row};
+use super::document::{change_row, hand_over_all_row, hand_over_row, row, undo_row};
 use crate::bench::{Bench, Failure};
-use crate::paper::{ABORT, BEGIN, CHANGE, COMMIT, HAND_OVER, UNDO};
+use crate::paper::{ABORT, BEGIN, CHANGE, COMMIT, HAND_OVER, HAND_OVER_ALL, UNDO};
 use crate::steps::{open, Step};
 
 /// One log for each kind of row, and a byte of its last row.
-pub const COUNT: u64 = 6 * 16;
+pub const COUNT: u64 = 7 * 16;
 
 /// Two visits with a change each, a third one, and a row of the kind.
 fn log(kind: u8) -> Vec<[u8; 16]> {
@@ -17,6 +17,7 @@ fn log(kind: u8) -> Vec<[u8; 16]> {
         HAND_OVER => hand_over_row(1, 2, 222, 6),
         UNDO => undo_row(1, 222, 300, 4, 6),
         COMMIT => row(COMMIT, 1, 6),
+        HAND_OVER_ALL => hand_over_all_row(1, 2, 6),
         _ => row(ABORT, 3, 6),
     };
     vec![

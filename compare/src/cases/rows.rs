@@ -2,19 +2,20 @@
 //! log, whether or not any calls would have made it, so that undo rows of several visits stand in
 //! turns and visits stay half undone. Rows that are refused are tried at the end of the log.
 
-use super::sessions::{amount, formatted, fuse, habits, held_cell, next_call, Habits};
+use super::sessions::{amount, formatted, fuse, habits, held_cell, holding_visit, next_call, Habits};
 use crate::arena::{Arena, Outcome};
 use crate::bench::{Bench, Failure};
 use crate::paper::{self, is_allowed, Ledger, Row};
-use crate::paper::{BEGIN, CHANGE, HAND_OVER, UNDO};
+use crate::paper::{BEGIN, CHANGE, HAND_OVER, HAND_OVER_ALL, UNDO};
 use crate::prng::Rng;
 use crate::steps::Step;
 
-/// How often a row of each kind is tried: begin, change, hand-over, undo, commit, abort.
-type Taste = [usize; 6];
+/// How often a row of each kind is tried: begin, change, hand-over, undo, commit, abort, hand-over of a whole
+/// visit.
+type Taste = [usize; 7];
 
 fn taste(rng: &mut Rng) -> Taste {
-    let mut taste = [0; 6];
+    let mut taste = [0; 7];
     for weight in &mut taste {
         *weight = rng.pick(&[1, 2, 4, 10, 30]);
     }
@@ -48,6 +49,7 @@ fn candidate(rng: &mut Rng, taste: &Taste, habits: &Habits, ledger: &Ledger) -> 
             let cell = held_cell(rng, ledger, visit).unwrap_or(cell);
             Row { receiver, cell, ..plain }
         }
+        HAND_OVER_ALL => whole_visit(rng, ledger, Row { receiver, ..plain }, cell),
         UNDO => undo(rng, ledger, plain),
         _ => plain,
     };
@@ -56,6 +58,21 @@ fn candidate(rng: &mut Rng, taste: &Taste, habits: &Habits, ledger: &Ledger) -> 
         spoil(rng, &mut bytes);
     }
     bytes
+}
+
+/// Mostly a row that hands all over that a visit holds, now and then one with a cell, of one visit to itself,
+/// or of a visit that has ended or has not begun.
+fn whole_visit(rng: &mut Rng, ledger: &Ledger, plain: Row, cell: u8) -> Row {
+    let giver = holding_visit(rng, ledger).unwrap_or(plain.visit);
+    let row = Row { visit: giver, ..plain };
+    let inactive = rng.pick(&[1, ledger.begin_rows() as u16, ledger.begin_rows() as u16 + 1]);
+    match rng.below(20) {
+        0 => Row { cell, ..row },
+        1 => Row { receiver: giver, ..row },
+        2 => Row { visit: inactive, ..row },
+        3 => Row { receiver: inactive, ..row },
+        _ => row,
+    }
 }
 
 /// Mostly the undo row of the visit's highest open change, now and then that of another change.
@@ -199,8 +216,8 @@ pub fn play(bench: &mut Bench, seed: u64) -> Result<(), Failure> {
     open_and_try(bench, rng, &made, &habits, 6)
 }
 
-/// The rows that a full log lacks room for, and that lack nothing else: a begin, a change in the last scope
-/// and a hand-over of it.
+/// The rows that a full log lacks room for, and that lack nothing else: a begin, a change in the last scope,
+/// a hand-over of it and one of all that its holder holds.
 fn lacking_room(ledger: &Ledger) -> Vec<[u8; 16]> {
     let number = ledger.rows.len() as u16 + 1;
     let begin = Row { kind: BEGIN, visit: ledger.begin_rows() as u16 + 1, number, ..Row::default() };
@@ -209,7 +226,10 @@ fn lacking_room(ledger: &Ledger) -> Vec<[u8; 16]> {
         let (visit, cell) = (last.holder, last.cell);
         rows.push(Row { kind: CHANGE, visit, cell, change: 1, ..begin });
         let other = ledger.active.iter().find(|other| **other != visit);
-        rows.extend(other.map(|other| Row { kind: HAND_OVER, visit, receiver: *other, cell, ..begin }));
+        if let Some(other) = other {
+            rows.push(Row { kind: HAND_OVER, visit, receiver: *other, cell, ..begin });
+            rows.push(Row { kind: HAND_OVER_ALL, visit, receiver: *other, ..begin });
+        }
     }
     rows.iter().map(Row::bytes).filter(|bytes| !is_allowed(ledger, bytes)).collect()
 }
@@ -219,10 +239,10 @@ fn lacking_room(ledger: &Ledger) -> Vec<[u8; 16]> {
 /// the scopes first.
 fn fill(rng: &mut Rng, made: &mut Made, habits: &Habits) {
     let changes = rng.pick(&[1_500, 2_000]);
-    grow(rng, made, &[4, 60, 0, 0, 0, 0], habits, changes);
+    grow(rng, made, &[4, 60, 0, 0, 0, 0, 0], habits, changes);
     let hand_overs = made.rows.len() + rng.below(40);
-    grow(rng, made, &[0, 1, 60, 0, 0, 0], habits, hand_overs);
-    grow(rng, made, &[4, 60, 1, 0, 0, 0], habits, 4_096);
+    grow(rng, made, &[0, 1, 60, 0, 0, 0, 6], habits, hand_overs);
+    grow(rng, made, &[4, 60, 1, 0, 0, 0, 1], habits, 4_096);
 }
 
 /// A log that is full but for the reserve. Then some changes are undone and a visit commits, and what room
@@ -241,14 +261,14 @@ pub fn play_full(bench: &mut Bench, seed: u64) -> Result<(), Failure> {
         for row in lacking_room(&made.ledger) {
             try_refused(bench, &made.rows, row)?;
         }
-        grow(rng, &mut made, &[0, 0, 0, 1, 0, 0], &habits, length + 30);
-        grow(rng, &mut made, &[0, 0, 0, 0, 1, 0], &habits, length + 31);
+        grow(rng, &mut made, &[0, 0, 0, 1, 0, 0, 0], &habits, length + 30);
+        grow(rng, &mut made, &[0, 0, 0, 0, 1, 0, 0], &habits, length + 31);
     }
     for _ in 0..6 {
         let taste = taste(rng);
         grow(rng, &mut made, &taste, &habits, 4_096);
     }
-    let drain = [1, 1, 1, 40, 1, 20];
+    let drain = [1, 1, 1, 40, 1, 20, 1];
     grow(rng, &mut made, &drain, &habits, 4_096);
     open_and_try(bench, rng, &made, &habits, 3)
 }

@@ -7,9 +7,10 @@ use crate::bench::{Bench, Failure};
 use crate::paper::Paper;
 use crate::prng::Rng;
 use crate::proved::relog;
-use crate::runfile::{parse, run, write, Session};
+use crate::runfile::{parse, run, write, Session, CALL_BYTES, ENTRY_BYTES};
 use crate::steps::Step;
 use crate::store::{Call, CELLS};
+use std::ops::Range;
 
 pub fn play(bench: &mut Bench, seed: u64) -> Result<(), Failure> {
     let rng = &mut Rng::new(seed);
@@ -25,8 +26,7 @@ pub fn play(bench: &mut Bench, seed: u64) -> Result<(), Failure> {
                 return arena
                     .differs(format!("the run file {file:?} gives\n{expected}and not\n{lines}"));
             }
-            let label = if parse(&file).is_some() { "run" } else { "15" };
-            arena.cover().answer("run file", label);
+            arena.cover().answer("run file", label(&file, &expected));
             alter(rng, &mut file);
         }
         Ok(())
@@ -60,15 +60,57 @@ fn in_bytes(call: Call) -> Call {
         Call::HandOver { giver, receiver, cell } => {
             Call::HandOver { giver: giver % 256, receiver: receiver % 256, cell }
         }
+        Call::HandOverAll { giver, receiver } => {
+            Call::HandOverAll { giver: giver % 256, receiver: receiver % 256 }
+        }
         Call::Commit { visit } => Call::Commit { visit: visit % 256 },
         Call::Abort { visit } => Call::Abort { visit: visit % 256 },
         other => other,
     }
 }
 
+/// What was met with a file that gives these lines. Of code 9 it is met that a whole visit was handed over,
+/// and that a file was refused for nothing but a cell, or a change, in a call with code 9.
+fn label(file: &[u8], lines: &str) -> &'static str {
+    match parse(file) {
+        Some(sessions) if hands_over_all(&sessions, lines) => "run with code 9",
+        Some(_) => "run",
+        None if is_right_without(file, 3..4) => "15 for a cell of code 9",
+        None if is_right_without(file, 4..6) => "15 for a change of code 9",
+        None => "15",
+    }
+}
+
+/// Whether in these sessions, which give these lines, a hand-over of a whole visit is done.
+fn hands_over_all(sessions: &[Session], lines: &str) -> bool {
+    let mut is_done = lines.lines().map(|line| line.split(' ').nth(2) == Some("0"));
+    sessions.iter().any(|session| {
+        let _opening = is_done.next();
+        let mut calls = session.calls.iter().zip(&mut is_done);
+        calls.any(|(call, is_done)| is_done && matches!(call, Call::HandOverAll { .. }))
+    })
+}
+
+/// Whether the file is right once these bytes of each call with code 9 are zero.
+fn is_right_without(file: &[u8], bytes: Range<usize>) -> bool {
+    let mut file = file.to_vec();
+    for call in calls_with_code_9(&file) {
+        file[call..][bytes.clone()].fill(0);
+    }
+    parse(&file).is_some()
+}
+
+/// Where the calls with code 9 start, if the entries of the sessions are right.
+fn calls_with_code_9(file: &[u8]) -> Vec<usize> {
+    let sessions = file.first().copied().map_or(0, usize::from);
+    let calls = (1 + ENTRY_BYTES * sessions..).step_by(CALL_BYTES);
+    calls.take_while(|call| call + CALL_BYTES <= file.len()).filter(|call| file[*call] == 9).collect()
+}
+
 fn alter(rng: &mut Rng, file: &mut Vec<u8>) {
     let at = rng.below(file.len().max(1));
-    match rng.below(6) {
+    let with_code_9 = calls_with_code_9(file);
+    match rng.below(7) {
         0 => file.truncate(at),
         1 => file.push(rng.byte()),
         2 => file.resize(4_097, 0),
@@ -77,6 +119,10 @@ fn alter(rng: &mut Rng, file: &mut Vec<u8>) {
         4 => {
             let head = 33.min(file.len());
             file[rng.below(head)] ^= 1 << rng.below(8);
+        }
+        5 if !with_code_9.is_empty() => {
+            let call = rng.pick(&with_code_9);
+            file[call + rng.pick(&[3, 4, 5])] ^= 1 << rng.below(8);
         }
         _ => file[at] = rng.byte(),
     }

@@ -14,8 +14,9 @@ pub struct Habits {
     pub cells: Vec<u8>,
     /// It begins no more visits while so many are active.
     pub visits: usize,
-    /// How often it makes each call: begin, change, hand over, commit, abort, force, flush, read.
-    pub weights: [usize; 8],
+    /// How often it makes each call: begin, change, hand over, hand over all, commit, abort, force, flush,
+    /// read.
+    pub weights: [usize; 9],
     /// Whether its changes are a few grams, or as large as they can be.
     pub small: bool,
     /// One argument in so many is arbitrary.
@@ -23,10 +24,12 @@ pub struct Habits {
 }
 
 pub fn habits(rng: &mut Rng) -> Habits {
-    let mut weights = [0; 8];
+    let mut weights = [0; 9];
     for weight in &mut weights {
         *weight = rng.pick(&[1, 1, 3, 8, 20]);
     }
+    // Where whole visits are handed over all the time, no other visit holds much.
+    weights[3] = weights[3].min(8);
     Habits {
         cells: cells(rng),
         visits: rng.pick(&[1, 2, 3, 5, 16]),
@@ -75,11 +78,15 @@ pub fn next_call(rng: &mut Rng, habits: &Habits, ledger: &Ledger) -> Call {
             receiver: other_visit(rng, habits, ledger, visit),
             cell: held_cell(rng, ledger, visit).unwrap_or(cell),
         },
-        3 => Call::Commit { visit },
-        4 => Call::Abort { visit },
-        5 => Call::Force,
-        6 if rng.below(habits.odd) == 0 => Call::FlushPage { page: rng.byte() },
-        6 => Call::FlushPage { page: cell / 7 },
+        3 => {
+            let giver = holding_visit(rng, ledger).unwrap_or(visit);
+            Call::HandOverAll { giver, receiver: other_visit(rng, habits, ledger, giver) }
+        }
+        4 => Call::Commit { visit },
+        5 => Call::Abort { visit },
+        6 => Call::Force,
+        7 if rng.below(habits.odd) == 0 => Call::FlushPage { page: rng.byte() },
+        7 => Call::FlushPage { page: cell / 7 },
         _ => Call::Read { cell },
     }
 }
@@ -89,14 +96,15 @@ pub fn any_call(rng: &mut Rng) -> Call {
     let mut visit = || rng.pick(&[0, 1, 1, 1, 2, 5, 11, 16, 17, 255, 256]);
     let (visit, receiver) = (visit(), visit());
     let cell = rng.byte();
-    match rng.below(8) {
+    match rng.below(9) {
         0 => Call::Begin,
         1 => Call::Change { visit, cell, amount: rng.draw() as i16 },
         2 => Call::HandOver { giver: visit, receiver, cell },
-        3 => Call::Commit { visit },
-        4 => Call::Abort { visit },
-        5 => Call::Force,
-        6 => Call::FlushPage { page: cell / 4 },
+        3 => Call::HandOverAll { giver: visit, receiver },
+        4 => Call::Commit { visit },
+        5 => Call::Abort { visit },
+        6 => Call::Force,
+        7 => Call::FlushPage { page: cell / 4 },
         _ => Call::Read { cell },
     }
 }
@@ -133,6 +141,12 @@ pub fn held_cell(rng: &mut Rng, ledger: &Ledger, visit: u16) -> Option<u8> {
         .map(|change| change.cell)
         .collect();
     (!held.is_empty() && rng.chance(4, 5)).then(|| rng.pick(&held))
+}
+
+/// Often a visit that holds something; none if no visit does.
+pub fn holding_visit(rng: &mut Rng, ledger: &Ledger) -> Option<u16> {
+    let holders: Vec<u16> = ledger.open_changes().rev().take(100).map(|change| change.holder).collect();
+    (!holders.is_empty() && rng.chance(1, 2)).then(|| rng.pick(&holders))
 }
 
 /// No fuse, or one that is used up soon, or late, or never. 4,294,967,295 is none for C.

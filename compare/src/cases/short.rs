@@ -4,7 +4,7 @@
 use crate::bench::{Bench, Failure};
 use crate::steps::*;
 
-const CALLS: usize = 11;
+const CALLS: usize = 13;
 
 /// The number of lists of four calls, and, for five, of those and the lists of five. Shorter lists
 /// are the beginnings of these.
@@ -23,6 +23,8 @@ fn call(index: usize) -> Step {
         change(2, 0, 1_000),
         hand_over(1, 2, 0),
         hand_over(2, 1, 0),
+        hand_over_all(1, 2),
+        hand_over_all(2, 1),
         commit(1),
         commit(2),
         abort(1),

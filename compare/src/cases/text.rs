@@ -123,6 +123,7 @@ pub const TEXT: [Case; 33] = [
                 begin(),
                 change(9, 240, 1),
                 hand_over(9, 9, 240),
+                hand_over_all(9, 9),
                 commit(9),
                 abort(9),
                 force(),
@@ -350,6 +351,7 @@ pub const TEXT: [Case; 33] = [
                     begin(),
                     change(1, 0, 1),
                     hand_over(1, 1, 0),
+                    hand_over_all(1, 1),
                     commit(1),
                     abort(1),
                     force(),
@@ -556,20 +558,20 @@ fn example(arena: &mut Arena, fuse: u32) -> Outcome<()> {
 }
 
 /// The rows with one more.
-fn with(rows: &[[u8; 16]], row: [u8; 16]) -> Vec<[u8; 16]> {
+pub fn with(rows: &[[u8; 16]], row: [u8; 16]) -> Vec<[u8; 16]> {
     let mut rows = rows.to_vec();
     rows.push(row);
     rows
 }
 
 /// An opening of this log is ready and writes so many rows.
-fn opens(arena: &mut Arena, log: &[[u8; 16]], rows: i64) -> Outcome<()> {
+pub fn opens(arena: &mut Arena, log: &[[u8; 16]], rows: i64) -> Outcome<()> {
     arena.step(Step::WriteLog(log.to_vec()))?;
     arena.expect(open(None), 0, rows)
 }
 
 /// The last row of this log is the first that is not allowed.
-fn is_refused(arena: &mut Arena, log: &[[u8; 16]]) -> Outcome<()> {
+pub fn is_refused(arena: &mut Arena, log: &[[u8; 16]]) -> Outcome<()> {
     arena.step(Step::WriteLog(log.to_vec()))?;
     arena.expect(open(None), 3, log.len() as i64)
 }

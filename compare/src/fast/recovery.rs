@@ -3,7 +3,7 @@
 
 use super::journal::{store_row, Stopped};
 use super::rows::{named_bytes_only, row_at, Row, Rows};
-use super::rows::{ABORT, BEGIN, CHANGE, COMMIT, HAND_OVER, ROW, ROWS, UNDO};
+use super::rows::{ABORT, BEGIN, CHANGE, COMMIT, HAND_OVER, HAND_OVER_ALL, ROW, ROWS, UNDO};
 use super::tables::{Tables, MOST_ACTIVE, MOST_SCOPES};
 use super::{Lent, Ram};
 use crate::store::{Scope, CELLS};
@@ -37,15 +37,15 @@ fn is_allowed(
                     || tables.growing(scopes, row.visit, row.cell).is_some())
                 && has_room(2)
         }
-        HAND_OVER => {
+        HAND_OVER | HAND_OVER_ALL => {
             let Some(other) = tables.place(row.receiver) else {
                 return false;
             };
-            place != other
-                && !bears[place]
-                && !bears[other]
-                && tables.holds(scopes, row.visit, row.cell)
-                && has_room(1)
+            let holds = match row.kind {
+                HAND_OVER => tables.holds(scopes, row.visit, row.cell),
+                _ => tables.holds_any(scopes, row.visit),
+            };
+            place != other && !bears[place] && !bears[other] && holds && has_room(1)
         }
         UNDO => {
             let highest = tables.highest(scopes, row.visit);

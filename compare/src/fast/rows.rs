@@ -9,10 +9,19 @@ pub const HAND_OVER: u8 = 3;
 pub const UNDO: u8 = 4;
 pub const COMMIT: u8 = 5;
 pub const ABORT: u8 = 6;
+pub const HAND_OVER_ALL: u8 = 7;
 
 /// For each kind, bit b is set if byte b may be other than zero.
-const NAMED: [u16; 7] =
-    [0, 0b00_0011_0011, 0b11_0011_1011, 0b00_0011_1111, 0b11_1111_1011, 0b00_0011_0011, 0b00_0011_0011];
+const NAMED: [u16; 8] = [
+    0,
+    0b00_0011_0011,
+    0b11_0011_1011,
+    0b00_0011_1111,
+    0b11_1111_1011,
+    0b00_0011_0011,
+    0b00_0011_0011,
+    0b00_0011_0111,
+];
 
 #[derive(Clone, Copy, Default)]
 pub struct Row {

@@ -5,7 +5,7 @@
 //! that the row rules allow, the table has one entry for each scope in use: `last` is its last change
 //! that is not undone, 0 for none, and `count` the number of such changes.
 
-use super::rows::{Row, Rows, BEGIN, CHANGE, HAND_OVER, ROWS, UNDO};
+use super::rows::{Row, Rows, BEGIN, CHANGE, HAND_OVER, HAND_OVER_ALL, ROWS, UNDO};
 use crate::store::Scope;
 
 pub const MOST_ACTIVE: usize = 16;
@@ -57,6 +57,10 @@ impl Tables {
         self.in_use(scopes).iter().any(|scope| scope.holder == visit && scope.cell == cell)
     }
 
+    pub fn holds_any(&self, scopes: &[Scope], visit: u16) -> bool {
+        self.in_use(scopes).iter().any(|scope| scope.holder == visit)
+    }
+
     /// The highest open change of the holder, 0 for none.
     #[inline]
     pub fn highest(&self, scopes: &[Scope], holder: u16) -> u16 {
@@ -91,14 +95,8 @@ impl Tables {
                     self.scope_count += 1;
                 }
             },
-            HAND_OVER => {
-                for scope in &mut scopes[..usize::from(self.scope_count)] {
-                    if scope.holder == row.visit && scope.cell == row.cell {
-                        scope.holder = row.receiver;
-                        scope.handed = true;
-                    }
-                }
-            }
+            HAND_OVER => self.pass_on(scopes, row, |scope| scope.cell == row.cell),
+            HAND_OVER_ALL => self.pass_on(scopes, row, |_| true),
             UNDO => {
                 let scope = scopes[..usize::from(self.scope_count)]
                     .iter_mut()
@@ -109,6 +107,17 @@ impl Tables {
                 }
             }
             _ => self.end_visit(scopes, row.visit),
+        }
+    }
+
+    /// Makes the row's receiver the holder of those of the giver's scopes that are chosen. None of them
+    /// grows any more.
+    fn pass_on(&self, scopes: &mut [Scope], row: &Row, is_chosen: impl Fn(&Scope) -> bool) {
+        for scope in &mut scopes[..usize::from(self.scope_count)] {
+            if scope.holder == row.visit && is_chosen(scope) {
+                scope.holder = row.receiver;
+                scope.handed = true;
+            }
         }
     }
 

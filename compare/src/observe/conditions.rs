@@ -1,5 +1,5 @@
-//! The conditions of 01's table "Refusals by place", each judged by itself, on the paper's store before
-//! the call.
+//! The conditions of 01's table "Refusals by place", and of the line that 02's request L2 adds to it, each
+//! judged by itself, on the paper's store before the call.
 
 use super::Moment;
 use crate::paper::{check_log, check_pages, rows_of, Ledger, BEGIN};
@@ -49,6 +49,13 @@ pub fn of_call(call: Call, lent: Lengths, before: &Moment, log: &[u8]) -> Condit
             (giver == receiver, "12"),
             (cell > 223, "10"),
             (!ledger.holds(giver, cell), "13"),
+            (lacks(1), "8"),
+        ]),
+        Call::HandOverAll { giver, receiver } => holding(&[
+            (inactive(giver), "9 giver"),
+            (inactive(receiver), "9 receiver"),
+            (giver == receiver, "12"),
+            (!ledger.holds_something(giver), "13"),
             (lacks(1), "8"),
         ]),
         Call::Commit { visit } | Call::Abort { visit } => holding(&[(inactive(visit), "9")]),

@@ -1,6 +1,6 @@
 //! What an opening found and left.
 
-use super::{is_on_page, label, undo_rows, writes, Moment};
+use super::{is_on_page, label, undo_rows, whole_visits, writes, Moment};
 use crate::cover::Cover;
 use crate::paper::{self, get_mark, rows_of, Ledger, Row, UNDO};
 use crate::store::{Answer, Lengths};
@@ -45,6 +45,8 @@ pub fn open(cover: &mut Cover, opening: &Opening) {
     cover.shape_if(!opening.sound, "opening of arbitrary RAM");
     let lost = opening.sound && before.open && before.waiting > 0;
     cover.shape_if(lost, "opening of waiting rows, without a cut");
+    let stays = lost && whole_visits::stays_with_giver(&before.ledger, stored);
+    cover.shape_if(stays, "opening that leaves a whole visit with its giver");
     if answer.number == 5 {
         return writes::cut_opening(cover, &Ledger::of(&rows[..stored]), answer.writes);
     }
@@ -58,6 +60,7 @@ pub fn open(cover: &mut Cover, opening: &Opening) {
     cover.shape_if(stored == 4_096, "opening of a full log");
     undo_rows(cover, &rows, new);
     found_rows(cover, &rows[..stored]);
+    whole_visits::opened(cover, &rows[..stored]);
     for page in 0..32 {
         let mark = usize::from(get_mark(opening.charts, usize::from(page)));
         if mark > 0 {
@@ -96,6 +99,7 @@ fn refused_log(cover: &mut Cover, log: &[u8], row: usize) {
         paper::BEGIN => "log refused at a begin row",
         paper::CHANGE => "log refused at a change row",
         paper::HAND_OVER => "log refused at a hand-over row",
+        paper::HAND_OVER_ALL => "log refused at a row of a whole visit",
         paper::UNDO => "log refused at an undo row",
         paper::COMMIT => "log refused at a commit row",
         paper::ABORT => "log refused at an abort row",
@@ -109,6 +113,9 @@ fn refused_log(cover: &mut Cover, log: &[u8], row: usize) {
         paper::BEGIN => cover.shape_if(lacks(2), "log refused at a begin row without room"),
         paper::CHANGE => cover.shape_if(lacks(2), "log refused at a change row without room"),
         paper::HAND_OVER => cover.shape_if(lacks(1), "log refused at a hand-over row without room"),
+        paper::HAND_OVER_ALL => {
+            whole_visits::refused_row(cover, &before, &log[(row - 1) * 16..row * 16])
+        }
         _ => {}
     }
 }

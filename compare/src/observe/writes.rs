@@ -13,7 +13,7 @@ pub fn done_call(cover: &mut Cover, call: Call, before: &Moment, writes: Writes)
     let Writes { rows, pages } = writes;
     match call {
         // Their own row waits: what they store are rows of other calls.
-        Call::Begin | Call::Change { .. } | Call::HandOver { .. } => {
+        Call::Begin | Call::Change { .. } | Call::HandOver { .. } | Call::HandOverAll { .. } => {
             cover.writes_if(rows == 64, place, "full tail stored first");
         }
         Call::Commit { .. } => {
@@ -42,7 +42,7 @@ pub fn cut_call(cover: &mut Cover, call: Call, before: &Moment, writes: Writes) 
     let landed = usize::from(writes.rows);
     cover.writes_if(landed == 0, place, "cut at the first write");
     match call {
-        Call::Begin | Call::Change { .. } | Call::HandOver { .. } => {
+        Call::Begin | Call::Change { .. } | Call::HandOver { .. } | Call::HandOverAll { .. } => {
             cover.writes_if(landed > 0, place, "cut between rows of a full tail");
         }
         Call::Commit { .. } => {

@@ -10,7 +10,7 @@ use borrow.Author.Tests.{eqb-true, eq-eqb, leb-false, le-leb, lt-ltb, not-false}
 use Rattle.book.specs.Lists.{foldl}
 use Rattle.book.specs.Limits.{visitLimit, activeLimit}
 use Rattle.book.specs.Rows.{Row, isVisit, isCell, fits}
-use Rattle.book.specs.Ledger.{Ledger, only, after}
+use Rattle.book.specs.Ledger.{Ledger, only, every, after}
 use Rattle.book.specs.Rules.{isActive, bearsUndo, just, room, scopeFits, holdsAny, mayHandOver, lawful, withinLimits, allowed, allAllowed}
 use Rattle.book.specs.Calls.{Call, Typed}
 use Rattle.book.specs.Power.{Book, ledgerOf}
@@ -100,3 +100,14 @@ fine-adds b (Call.abort v) i w t e =
 fine-adds b Call.force i w t e = record { good = refl; whole = w }
 fine-adds b (Call.flush p) i w t e = record { good = refl; whole = w }
 fine-adds b (Call.read c) i w t e = record { good = refl; whole = w }
+fine-adds b (Call.handOverAll g r) i w t e =
+    let l = ledgerOf b in
+    let p = passes (not (isActive l g)) 8 _ e in
+    let q = passes (not (isActive l r)) 8 _ (p .1) in
+    let s = passes (eqb g r) 11 _ (q .1) in
+    let x = passes (not (holdsAny l g every)) 12 _ (s .1) in
+    let y = passes (not (room l 1)) 7 _ (x .1) in
+    let ag = not-false (isActive l g) (p .0) in
+    let ar = not-false (isActive l r) (q .0) in
+    let fit : fits (Row.handOverAll g r) ≡ true = and-i _ _ (is-visit l g i ag) (is-visit l r i ar) in
+    alone l (Row.handOverAll g r) (and-i _ _ (and-i _ _ fit (may-hand-over l g r every w ag ar (s .0) (not-false _ (x .0)))) (not-false _ (y .0))) w

@@ -70,12 +70,14 @@ someEnded =
 
 -- 01: "9: visit not active", and of a hand-over "giver, then receiver"
 pub ended-by-commit :
-    map (refusalAfter someEnded) (Call.change 1 0 (pos 1) ∷ Call.handOver 1 2 0 ∷ Call.handOver 2 1 0 ∷ Call.commit 1 ∷ Call.abort 1 ∷ []) ≡ replicate 5 9
+    map (refusalAfter someEnded) (Call.change 1 0 (pos 1) ∷ Call.handOver 1 2 0 ∷ Call.handOver 2 1 0 ∷ Call.commit 1 ∷ Call.abort 1 ∷
+    Call.handOverAll 1 2 ∷ Call.handOverAll 2 1 ∷ []) ≡ replicate 7 9
 unfolding computes
 ended-by-commit = refl
 
 pub ended-by-abort :
-    map (refusalAfter someEnded) (Call.change 3 0 (pos 1) ∷ Call.handOver 3 2 0 ∷ Call.handOver 2 3 0 ∷ Call.commit 3 ∷ Call.abort 3 ∷ []) ≡ replicate 5 9
+    map (refusalAfter someEnded) (Call.change 3 0 (pos 1) ∷ Call.handOver 3 2 0 ∷ Call.handOver 2 3 0 ∷ Call.commit 3 ∷ Call.abort 3 ∷
+    Call.handOverAll 3 2 ∷ Call.handOverAll 2 3 ∷ []) ≡ replicate 7 9
 unfolding computes
 ended-by-abort = refl
 
@@ -101,6 +103,20 @@ handedBack = scopes 64 ++ (Row.handOver 1 2 5 ∷ Row.handOver 2 1 5 ∷ [])
 pub scope-handed-back : asked handedBack (Call.change 1 5 (pos 1)) ≡ refusedBy 11
 unfolding computes
 scope-handed-back = refl
+
+-- 02, L2: one row, whatever the number of cells; each cell is handed over, so a change of it starts a scope
+pub whole-visit-of-64 : asked (scopes 64) (Call.handOverAll 1 2) ≡ done (pos 67)
+unfolding computes
+whole-visit-of-64 = refl
+
+pub scope-of-whole-visit : asked (scopes 64 ++ (Row.handOverAll 1 2 ∷ [])) (Call.change 1 5 (pos 1)) ≡ refusedBy 11
+unfolding computes
+scope-of-whole-visit = refl
+
+-- 02, L2: 13 where the giver holds nothing at all
+pub whole-visit-of-nothing : asked (scopes 64) (Call.handOverAll 2 1) ≡ refusedBy 13
+unfolding computes
+whole-visit-of-nothing = refl
 
 -- 01: "a scope is in use while its changes' holder is active"
 pub scopes-of-ended : asked (scopes 64 ++ (Row.commit 1 ∷ [])) (Call.change 2 0 (pos 1)) ≡ done (pos 68)
@@ -141,7 +157,7 @@ flush-of-32 = refl
 
 -- ── Free rows ─────────────────────────────────────────────────────────────────────────────────────────────────────────
 
--- 01: "8: free below need". After 4,091 rows 5 are free, and the reserve is 3: begin and change need 2 more, a hand-over 1.
+-- 01: "8: free below need". After 4,091 rows 5 are free, and the reserve is 3: begin and change need 2 more, a hand-over 1, of a whole visit too.
 pub begin-with-5-free : refusalAfter rows4091 Call.begin ≡ 0
 unfolding computes
 begin-with-5-free = rw (append-nil rows4091, comes-4091) refl
@@ -165,6 +181,14 @@ hand-over-with-4-free = rw (append-nil rows4092, comes-4092) refl
 pub hand-over-with-3-free : refusalAfter rows4093 (Call.handOver 1 2 0) ≡ 8
 unfolding computes
 hand-over-with-3-free = rw (append-nil rows4093, comes-4093) refl
+
+pub whole-visit-with-4-free : refusalAfter rows4092 (Call.handOverAll 2 1) ≡ 0
+unfolding computes
+whole-visit-with-4-free = rw (append-nil rows4092, comes-4092) refl
+
+pub whole-visit-with-3-free : refusalAfter rows4093 (Call.handOverAll 1 2) ≡ 8
+unfolding computes
+whole-visit-with-3-free = rw (append-nil rows4093, comes-4093) refl
 
 -- 01: "they make commit, abort and opening never lack space"
 pub commit-with-3-free : refusalAfter rows4093 (Call.commit 1) ≡ 0

@@ -10,8 +10,8 @@ use lib.Dec.{eqb, leb}
 use borrow.Author.Tests.{eqb-true, ne-eqb, leb-true}
 use Rattle.book.specs.Lists.{In, keep, any, foldl, member, without}
 use Rattle.book.specs.Limits.{rowLimit, visitLimit}
-use Rattle.book.specs.Rows.{Row, begin, change, handOver, undo, commit, abort, isCell, isAmount, fits}
-use Rattle.book.specs.Ledger.{Change, Ledger, empty, pass, only, handedOver, after, ledger}
+use Rattle.book.specs.Rows.{Row, begin, change, handOver, undo, commit, abort, handOverAll, isCell, isAmount, fits}
+use Rattle.book.specs.Ledger.{Change, Ledger, empty, pass, only, every, handedOver, after, ledger}
 use Rattle.book.specs.Rules.{isActive, bearsUndo, isUndone, isOpenChange, openChanges, just, reserve, free, room, mayHandOver, lawful, withinLimits, allowed, allAllowed, allowedLog}
 use Rattle.book.specs.Cells.{isKept}
 use Rattle.book.proofs.Lists.{clash, not-is, and-l, and-r, and-i, or-l, or-r, eqb-sym, in-cons, keep-in, keep-same, keep-map, any-false, length-keep, stays, stays-in, stays-out, goes, length-without}
@@ -239,6 +239,7 @@ inv-after l (handOver g r c) = λ e. inv-handed l g r (only c) (search (and-l, a
 inv-after l (undo h c n a) = inv-undo l h c n a
 inv-after l (commit v) = inv-commit l v
 inv-after l (abort v) = inv-abort l v
+inv-after l (handOverAll g r) = λ e. inv-handed l g r every (search (and-l, and-r, and-i))
 
 pub inv-all : (l : Ledger) (rs : List Row) → allAllowed l rs ≡ true → Inv l → Inv (foldl after l rs)
 inv-all l [] e i = i

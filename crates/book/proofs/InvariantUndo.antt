@@ -1,4 +1,4 @@
--- An allowed undo row keeps the invariant: the longest of the six cases, since the row names one change among all.
+-- An allowed undo row keeps the invariant: the longest of the cases, since the row names one change among all.
 use Prim.Native.Nat.{ℕ, suc, _≤_}
 use native.Mathlib.Omega.{arith}
 use mathlib.Core.Path.{_≡_, refl, ap, sym, _∙_}

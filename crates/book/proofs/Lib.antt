@@ -22,6 +22,8 @@ pub mod NextUndo
 pub mod Steps
 pub mod Force
 pub mod Adds
+pub mod HandOverAll
+pub mod HeldCells
 pub mod Sound
 pub mod Openings
 pub mod Claims

@@ -186,6 +186,18 @@ module _ {A : Type 0} where
       go true q ih = let z : _≡_ {A = ℕ} 0 1 = cc in absurd (omega arith)
       go false q ih = ih q
 
+  pub any-in : (p : A → Bool) {x : A} {xs : List A} → In x xs → p x ≡ true → any p xs ≡ true
+  any-in p {x} (List·Memᴰ·head {x = y} {xs = xs} e) h = rw (← e, h)
+  any-in p {x} (List·Memᴰ·tail {x = y} {xs = xs} m) h = or-r (p y) (any p xs) (any-in p m h)
+
+  pub any-some : (p : A → Bool) (xs : List A) → any p xs ≡ true → (x : A) × In x xs × (p x ≡ true)
+  any-some p [] e = clash false e refl
+  any-some p (x ∷ xs) e = go (p x) refl e (any-some p xs)
+    where
+      go : (t : Bool) → p x ≡ t → (t || any p xs) ≡ true → (any p xs ≡ true → (y : A) × In y xs × (p y ≡ true)) → (y : A) × In y (x ∷ xs) × (p y ≡ true)
+      go true q k ih = (x, here, q)
+      go false q k ih = let r = ih k in (r .0, there (r .1), r .2)
+
   -- what a stronger test keeps is no longer
   pub length-keep : (p q : A → Bool) (xs : List A) → ((x : A) → In x xs → p x ≡ true → q x ≡ true) → length (keep p xs) ≤ length (keep q xs)
   length-keep p q [] h = omega arith

@@ -60,6 +60,7 @@ abs-row c (Row.handOver g r k) e = omega arith
 abs-row c (Row.undo h k n a) e = abs-moved c k (negℤ a) (rw (abs-neg a) (abs-amount a (search (and-l, and-r))))
 abs-row c (Row.commit v) e = omega arith
 abs-row c (Row.abort v) e = omega arith
+abs-row c (Row.handOverAll g r) e = omega arith
 
 pub abs-sum : (c : ℕ) (l : Ledger) (rs : List Row) → allAllowed l rs ≡ true → natAbs (sumOf c rs) ≤ 32768 * length rs
 abs-sum c l [] e = omega arith

@@ -10,8 +10,8 @@ use lib.IntN.{ℤ}
 use lib.Dec.{eqb}
 use borrow.Author.Tests.{eqb-true, eq-eqb}
 use Rattle.book.specs.Lists.{In, foldl, member}
-use Rattle.book.specs.Rows.{Row, begin, change, handOver, undo, commit, abort}
-use Rattle.book.specs.Ledger.{Change, Ledger, empty, newChange, holds, given, pass, only, after, ledger}
+use Rattle.book.specs.Rows.{Row, begin, change, handOver, undo, commit, abort, handOverAll}
+use Rattle.book.specs.Ledger.{Change, Ledger, empty, newChange, holds, given, pass, only, every, after, ledger}
 use Rattle.book.specs.Rules.{isActive, bearsUndo, isUndone, lawful, allowed, allAllowed, allowedLog}
 use Rattle.book.specs.Book.{undoOf}
 use Rattle.book.proofs.Lists.{clash, and-i, and-l, and-r, or-r, not-is}
@@ -244,6 +244,7 @@ ordered-after l (undo h c n a) e i S O =
     subst (λ (r : Row). Ordered (after l r)) (sym (u .is)) (ordered-undo l (u .x) (top-first _ l (u .x) (u .rest) (i .falling) (u .first)) i S O)
 ordered-after l (commit v) e i S O = record { low = O .low; rises = O .rises; newer = O .newer; sinks = O .sinks }
 ordered-after l (abort v) e i S O = record { low = O .low; rises = O .rises; newer = O .newer; sinks = O .sinks }
+ordered-after l (handOverAll g r) e i S O = ordered-pass l g r every S O (suc (l .rows))
 
 pub ordered-all : (l : Ledger) (rs : List Row) → allAllowed l rs ≡ true → Inv l → Scoped (l .changes) → Ordered l → Ordered (foldl after l rs)
 ordered-all l [] e i S O = O

@@ -11,8 +11,8 @@ use lib.IntN.{ℤ}
 use lib.Dec.{ltb}
 use borrow.Author.Tests.{ltb-true, ltb-false}
 use Rattle.book.specs.Lists.{In, foldl}
-use Rattle.book.specs.Rows.{Row, begin, change, handOver, undo, commit, abort}
-use Rattle.book.specs.Ledger.{Change, Ledger, empty, newChange, pass, only, after, ledger}
+use Rattle.book.specs.Rows.{Row, begin, change, handOver, undo, commit, abort, handOverAll}
+use Rattle.book.specs.Ledger.{Change, Ledger, empty, newChange, pass, only, every, after, ledger}
 use Rattle.book.specs.Pages.{rowAt}
 use Rattle.book.proofs.Lists.{here, there}
 use Rattle.book.proofs.Invariant.{pass-cases}
@@ -55,6 +55,7 @@ from l (handOver g r c) y m = passed-from l (handOver g r c) g r (only c) y m
 from l (undo h c n a) y m = old y m (same-refl y)
 from l (commit v) y m = old y m (same-refl y)
 from l (abort v) y m = old y m (same-refl y)
+from l (handOverAll g r) y m = passed-from l (handOverAll g r) g r every y m
 
 -- what becomes of a change
 to : (l : Ledger) (r : Row) (x : Change) → In x (l .changes) → (y : Change) × In y (after l r .changes) × SameChange x y
@@ -65,6 +66,7 @@ to l (handOver g r c) x m = (pass g r (only c) x, Memᴰ·map (pass g r (only c)
 to l (undo h c n a) x m = (x, m, same-refl x)
 to l (commit v) x m = (x, m, same-refl x)
 to l (abort v) x m = (x, m, same-refl x)
+to l (handOverAll g r) x m = (pass g r every x, Memᴰ·map (pass g r every) m, same-pass g r every x)
 
 -- ── Every log ─────────────────────────────────────────────────────────────────────────────────────────────────────────
 

@@ -41,6 +41,7 @@ row-long n (Row.handOver g r c) = refl
 row-long n (Row.undo h c u a) = refl
 row-long n (Row.commit v) = refl
 row-long n (Row.abort v) = refl
+row-long n (Row.handOverAll g r) = refl
 
 -- byte 0 is the kind, bytes 4 and 5 are the own number
 pub row-kind : (n : ℕ) (r : Row) (t : List ℕ) → getD (rowBytes n r ++ t) 0 0 ≡ kindOf r
@@ -51,6 +52,7 @@ row-kind n (Row.handOver g r c) t = refl
 row-kind n (Row.undo h c u a) t = refl
 row-kind n (Row.commit v) t = refl
 row-kind n (Row.abort v) t = refl
+row-kind n (Row.handOverAll g r) t = refl
 
 pub kind-known : (r : Row) → (1 ≤ kindOf r) × (kindOf r ≤ kindLimit)
 kind-known (Row.begin v) = omega arith
@@ -59,6 +61,7 @@ kind-known (Row.handOver g r c) = omega arith
 kind-known (Row.undo h c u a) = omega arith
 kind-known (Row.commit v) = omega arith
 kind-known (Row.abort v) = omega arith
+kind-known (Row.handOverAll g r) = omega arith
 
 pub row-own : (n : ℕ) (r : Row) → n < 65536 → number 2 (rowBytes n r) 4 ≡ n
 unfolding rowBytes
@@ -68,6 +71,7 @@ row-own n (Row.handOver g r c) h = two-bytes n h
 row-own n (Row.undo k c u a) h = two-bytes n h
 row-own n (Row.commit v) h = two-bytes n h
 row-own n (Row.abort v) h = two-bytes n h
+row-own n (Row.handOverAll g r) h = two-bytes n h
 
 -- ── The row is read back ──────────────────────────────────────────────────────────────────────────────────────────────
 
@@ -86,6 +90,7 @@ row-back n (Row.undo h c u a) e =
     (ap₂ (λ (x : ℕ) (z : ℤ). Row.undo h c x z) (two-bytes u (omega arith)) (amount-back a (and-r (isVisit h && isCell c && isRowNumber u) _ e)))
 row-back n (Row.commit v) e = ap Row.commit (omega arith)
 row-back n (Row.abort v) e = ap Row.abort (omega arith)
+row-back n (Row.handOverAll g r) e = rw (add-zero g, add-zero r)
 
 -- a row's own bytes are a row's bytes
 pub row-bytes : (n : ℕ) (r : Row) → fits r ≡ true → isRowBytes n (rowBytes n r) ≡ true
@@ -139,6 +144,7 @@ bytes-by-table n r = zero-at (getD mayBeSet (kindOf r) []) (rowBytes n r) (line 
     line n (Row.undo h c u a) = omega arith
     line n (Row.commit v) = omega arith
     line n (Row.abort v) = omega arith
+    line n (Row.handOverAll g r) = omega arith
 
 -- What a reader tests of 16 bytes: a known kind, the own number, and zero where the table says so.
 pub record ByTable (n : ℕ) (bs : List ℕ) : Type 0 where
@@ -233,4 +239,7 @@ table-bytes n bs long byte t =
     go (suc (suc (suc (suc (suc (suc zero)))))) e l h z =
         same 6 _ 0 0 _ _ _ _ e v (none 6 z 2 (omega arith) refl) (none 6 z 3 (omega arith) refl) own (none-two 6 z 6 (omega arith) refl refl)
         (none-two 6 z 8 (omega arith) refl refl) (none-last 6 z refl)
-    go (suc (suc (suc (suc (suc (suc (suc k))))))) e l h z = absurd (omega arith)
+    go (suc (suc (suc (suc (suc (suc (suc zero))))))) e l h z =
+        same 7 _ _ 0 _ _ _ _ e v (add-zero (b 2)) (none 7 z 3 (omega arith) refl) own (none-two 7 z 6 (omega arith) refl refl)
+        (none-two 7 z 8 (omega arith) refl refl) (none-last 7 z refl)
+    go (suc (suc (suc (suc (suc (suc (suc (suc k)))))))) e l h z = absurd (omega arith)

@@ -88,9 +88,28 @@ pub too-low-change : allowedAfter (visits 1) (Row.change 1 0 (negsuc 32768)) ≡
 unfolding computes
 too-low-change = refl
 
+-- ── A whole visit ─────────────────────────────────────────────────────────────────────────────────────────────────────
+
+-- 02, L2: "the giver holds something"; the two are active, and are two
+pub whole-visit-row : allowedAfter (scopes 1) (Row.handOverAll 1 2) ≡ true
+unfolding computes
+whole-visit-row = refl
+
+pub whole-visit-row-of-nothing : allowedAfter (scopes 1) (Row.handOverAll 2 1) ≡ false
+unfolding computes
+whole-visit-row-of-nothing = refl
+
+pub whole-visit-row-to-oneself : allowedAfter (scopes 1) (Row.handOverAll 1 1) ≡ false
+unfolding computes
+whole-visit-row-to-oneself = refl
+
+pub whole-visit-row-to-nobody : allowedAfter (scopes 1) (Row.handOverAll 1 3) ≡ false
+unfolding computes
+whole-visit-row-to-nobody = refl
+
 -- ── Free rows ─────────────────────────────────────────────────────────────────────────────────────────────────────────
 
--- 01: "free is at least reserve + 2" of begin and change, "reserve + 1" of a hand-over. After 4,091 rows 5 are free, and the reserve is 3.
+-- 01: "free is at least reserve + 2" of begin and change, "reserve + 1" of a hand-over; 02, L2: of a whole visit too. After 4,091 rows 5 are free, and the reserve is 3.
 pub begin-row-with-5-free : allowedAfter rows4091 (Row.begin 3) ≡ true
 unfolding computes
 begin-row-with-5-free = rw comes-4091 refl
@@ -114,6 +133,14 @@ hand-over-row-with-4-free = rw comes-4092 refl
 pub hand-over-row-with-3-free : allowedAfter rows4093 (Row.handOver 1 2 0) ≡ false
 unfolding computes
 hand-over-row-with-3-free = rw comes-4093 refl
+
+pub whole-visit-row-with-4-free : allowedAfter rows4092 (Row.handOverAll 2 1) ≡ true
+unfolding computes
+whole-visit-row-with-4-free = rw comes-4092 refl
+
+pub whole-visit-row-with-3-free : allowedAfter rows4093 (Row.handOverAll 1 2) ≡ false
+unfolding computes
+whole-visit-row-with-3-free = rw comes-4093 refl
 
 -- 01 asks no free row of undo, commit and abort
 pub undo-row-with-3-free : allowedAfter rows4093 (Row.undo 1 0 3 (pos 1)) ≡ true
@@ -180,6 +207,14 @@ giver-after-undo = refl
 pub receiver-after-undo : allowedAfter undoneOne (Row.handOver 2 1 1) ≡ false
 unfolding computes
 receiver-after-undo = refl
+
+pub whole-visit-giver-after-undo : allowedAfter undoneOne (Row.handOverAll 1 2) ≡ false
+unfolding computes
+whole-visit-giver-after-undo = refl
+
+pub whole-visit-receiver-after-undo : allowedAfter undoneOne (Row.handOverAll 2 1) ≡ false
+unfolding computes
+whole-visit-receiver-after-undo = refl
 
 pub commit-after-undo : allowedAfter undoneBoth (Row.commit 1) ≡ false
 unfolding computes

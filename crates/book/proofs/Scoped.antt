@@ -9,8 +9,8 @@ use lib.IntN.{ℤ}
 use lib.Dec.{eqb}
 use borrow.Author.Tests.{eqb-true}
 use Rattle.book.specs.Lists.{In, keep, foldl}
-use Rattle.book.specs.Rows.{Row, begin, change, handOver, undo, commit, abort}
-use Rattle.book.specs.Ledger.{Change, Ledger, empty, continues, scopeFrom, newChange, only, holds, given, pass, after, ledger}
+use Rattle.book.specs.Rows.{Row, begin, change, handOver, undo, commit, abort, handOverAll}
+use Rattle.book.specs.Ledger.{Change, Ledger, empty, continues, scopeFrom, newChange, only, every, holds, given, pass, after, ledger}
 use Rattle.book.proofs.Lists.{clash, not-is, and-l, and-r, here, there, in-cons, in-keep, keep-in}
 use Rattle.book.proofs.Invariant.{pass-cases, pass-row}
 
@@ -185,6 +185,7 @@ scoped-after l (handOver g r c) S = scoped-pass g r (only c) (l .changes) S
 scoped-after l (undo h c n a) S = S
 scoped-after l (commit v) S = S
 scoped-after l (abort v) S = S
+scoped-after l (handOverAll g r) S = scoped-pass g r every (l .changes) S
 
 pub scoped-all : (l : Ledger) (rs : List Row) → Scoped (l .changes) → Scoped (foldl after l rs .changes)
 scoped-all l [] S = S

@@ -30,9 +30,10 @@ log-length = length-replicate {A = ℕ} 65536 0
 
 -- a row of each kind, in the order of the kinds
 abbrev eachKind : List Row
-eachKind = Row.begin 1 ∷ Row.change 1 9 (negsuc 199) ∷ Row.handOver 1 2 9 ∷ Row.undo 2 9 2 (negsuc 199) ∷ Row.commit 1 ∷ Row.abort 2 ∷ []
+eachKind = Row.begin 1 ∷ Row.change 1 9 (negsuc 199) ∷ Row.handOver 1 2 9 ∷ Row.undo 2 9 2 (negsuc 199) ∷ Row.commit 1 ∷ Row.abort 2 ∷
+    Row.handOverAll 1 2 ∷ []
 
--- 01: "kind: 1 begin, 2 change, 3 hand-over, 4 undo, 5 commit, 6 abort"
+-- 01: "kind: 1 begin, 2 change, 3 hand-over, 4 undo, 5 commit, 6 abort"; 02, L2: 7 the hand-over of a whole visit
 pub kinds : map kindOf eachKind ≡ tabulate kindLimit 1 (λ k. k)
 kinds = refl
 
@@ -44,6 +45,7 @@ pub row-of-each-kind : map (rowBytes 258) eachKind ≡
     (4 ∷ 2 ∷ 0 ∷ 9 ∷ 2 ∷ 1 ∷ 2 ∷ 0 ∷ 56 ∷ 255 ∷ 0 ∷ 0 ∷ 0 ∷ 0 ∷ 0 ∷ 0 ∷ []) ∷
     (5 ∷ 1 ∷ 0 ∷ 0 ∷ 2 ∷ 1 ∷ 0 ∷ 0 ∷ 0 ∷ 0 ∷ 0 ∷ 0 ∷ 0 ∷ 0 ∷ 0 ∷ 0 ∷ []) ∷
     (6 ∷ 2 ∷ 0 ∷ 0 ∷ 2 ∷ 1 ∷ 0 ∷ 0 ∷ 0 ∷ 0 ∷ 0 ∷ 0 ∷ 0 ∷ 0 ∷ 0 ∷ 0 ∷ []) ∷
+    (7 ∷ 1 ∷ 2 ∷ 0 ∷ 2 ∷ 1 ∷ 0 ∷ 0 ∷ 0 ∷ 0 ∷ 0 ∷ 0 ∷ 0 ∷ 0 ∷ 0 ∷ 0 ∷ []) ∷
     []
 unfolding computes
 row-of-each-kind = refl
@@ -64,6 +66,24 @@ extremes = Row.begin 1 ∷ Row.change 1 0 (negsuc 32767) ∷ Row.change 1 0 (pos
 pub extremes-read : read 3 (rowsBytes 1 extremes) ≡ good extremes
 unfolding computes
 extremes-read = refl
+
+-- two visits and a change, handed over with all that the first holds
+abbrev fourRows : List Row
+fourRows = Row.begin 1 ∷ Row.begin 2 ∷ Row.change 1 9 (pos 1) ∷ Row.handOverAll 1 2 ∷ []
+
+pub whole-visit-read : read 4 (rowsBytes 1 fourRows) ≡ good fourRows
+unfolding computes
+whole-visit-read = refl
+
+-- 02, L2: "cell zero". The cell's byte of a row of kind 7 is one that must be zero, even where the giver holds a change of that cell.
+pub whole-visit-with-a-cell : read 4 (set (rowsBytes 1 fourRows) (16 * 3 + 3) 9) ≡ bad 3 4
+unfolding computes
+whole-visit-with-a-cell = refl
+
+-- there is no kind 8
+pub no-kind-8 : read 4 (set (rowsBytes 1 fourRows) (16 * 3) 8) ≡ bad 3 4
+unfolding computes
+no-kind-8 = refl
 
 -- 01: 3 "gives the first such row": rows 2 and 3 are not allowed
 pub first-bad-row : read 3 (rowsBytes 1 (Row.begin 1 ∷ Row.begin 1 ∷ Row.begin 1 ∷ [])) ≡ bad 3 2

@@ -94,6 +94,11 @@ pub cut-full-tail-counts : lastCounts (left 63) (changes 63) (Call.change 1 0 (p
 unfolding computes
 cut-full-tail-counts = refl
 
+-- 02, L2: two begins and 62 changes wait; the hand-over of the whole visit stores them first, and waits itself
+pub whole-visit-full-tail-counts : lastCounts (left 64) (Call.begin ∷ changes 62) (Call.handOverAll 1 2) ≡ counts 64 0
+unfolding computes
+whole-visit-full-tail-counts = refl
+
 -- An abort of 64 changes makes 64 undo rows and an abort row. With 64 rows stored and one waiting, the tail is full before the last undo row: the abort stores 64.
 pub abort-counts : lastCounts none (changes 64) (Call.abort 1) ≡ counts 64 0
 unfolding computes

@@ -70,6 +70,20 @@ pub abort-waits : afterSession (left 5) (Call.begin ∷ Call.abort 1 ∷ []) ≡
 unfolding computes
 abort-waits = refl
 
+-- 02, L2: the row of a whole visit waits, as that of a single hand-over does
+abbrev twoCells : List Call
+twoCells = Call.begin ∷ Call.begin ∷ Call.change 1 0 (pos 1) ∷ Call.change 1 7 (pos 1) ∷ []
+
+pub hand-over-waits : afterSession (left 5) (twoCells ++ (Call.handOver 1 2 0 ∷ [])) ≡
+    openBook [] (visits 2 ++ (Row.change 1 0 (pos 1) ∷ Row.change 1 7 (pos 1) ∷ Row.handOver 1 2 0 ∷ [])) (left 5)
+unfolding computes
+hand-over-waits = refl
+
+pub whole-visit-waits : afterSession (left 5) (twoCells ++ (Call.handOverAll 1 2 ∷ [])) ≡
+    openBook [] (visits 2 ++ (Row.change 1 0 (pos 1) ∷ Row.change 1 7 (pos 1) ∷ Row.handOverAll 1 2 ∷ [])) (left 5)
+unfolding computes
+whole-visit-waits = refl
+
 -- ── Flush ─────────────────────────────────────────────────────────────────────────────────────────────────────────────
 
 -- a change of the last cell of page 0, then one of the first of page 1

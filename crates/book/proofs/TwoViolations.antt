@@ -1,7 +1,7 @@
--- Document 01, "Refusals by place, in checking order": for each two neighbours of a line of the table, something that both rule out, and the number of
--- the first. All hold by computing, those over a full log from what its rows come to.
+-- Document 01, "Refusals by place, in checking order", with the line of document 02, L2: for each two neighbours of a line of the table, something that both rule
+-- out, and the number of the first. All hold by computing, those over a full log from what its rows come to.
 -- Commit, abort, flush and read have one number of their own. Two neighbours cannot be told apart: a giver and a receiver that are not active are both
--- refused by 9, and a receiver that is not active and is the giver too (12) is a giver that is not active.
+-- refused by 9, and a receiver that is not active and is the giver too (12) is a giver that is not active. So the receiver's 9 is held against the number after 12.
 use Prim.Native.Nat.{ℕ, _+_, _*_}
 use mathlib.Core.Path.{_≡_, refl}
 use mathlib.Core.Bool.{true, false}
@@ -62,6 +62,11 @@ pub hand-over-9-before-12 : refusalAfter [] (Call.handOver 1 1 0) ≡ 9
 unfolding computes
 hand-over-9-before-12 = refl
 
+-- the receiver is not active, and there is no such cell
+pub hand-over-9-before-10 : refusalAfter (visits 1) (Call.handOver 1 2 224) ≡ 9
+unfolding computes
+hand-over-9-before-10 = refl
+
 pub hand-over-12-before-10 : refusalAfter (visits 1) (Call.handOver 1 1 224) ≡ 12
 unfolding computes
 hand-over-12-before-10 = refl
@@ -76,18 +81,40 @@ pub hand-over-13-before-8 : refusalAfter rows4093 (Call.handOver 1 2 1) ≡ 13
 unfolding computes
 hand-over-13-before-8 = rw (append-nil rows4093, comes-4093) refl
 
+-- ── Hand over a whole visit (02, L2): 9, 12, 13, 8 ────────────────────────────────────────────────────────────────────
+
+pub whole-visit-9-before-12 : refusalAfter [] (Call.handOverAll 1 1) ≡ 9
+unfolding computes
+whole-visit-9-before-12 = refl
+
+-- the receiver is not active, and the giver holds nothing
+pub whole-visit-9-before-13 : refusalAfter (visits 1) (Call.handOverAll 1 2) ≡ 9
+unfolding computes
+whole-visit-9-before-13 = refl
+
+-- the one visit holds nothing
+pub whole-visit-12-before-13 : refusalAfter (visits 1) (Call.handOverAll 1 1) ≡ 12
+unfolding computes
+whole-visit-12-before-13 = refl
+
+-- the giver holds nothing, and the 3 free rows are the reserve
+pub whole-visit-13-before-8 : refusalAfter rows4093 (Call.handOverAll 2 1) ≡ 13
+unfolding computes
+whole-visit-13-before-8 = rw (append-nil rows4093, comes-4093) refl
+
 -- ── Every call: 1, then 5 of those but format and open, then its own numbers ──────────────────────────────────────────
 
 -- a call of each kind that its own line refuses after 16 visits
 abbrev refusedAnyway : List Call
 refusedAnyway =
-    Call.begin ∷ Call.change 17 0 (pos 1) ∷ Call.handOver 17 1 0 ∷ Call.commit 17 ∷ Call.abort 17 ∷ Call.flush 32 ∷ Call.read 224 ∷ []
+    Call.begin ∷ Call.change 17 0 (pos 1) ∷ Call.handOver 17 1 0 ∷ Call.commit 17 ∷ Call.abort 17 ∷ Call.flush 32 ∷ Call.read 224 ∷
+    Call.handOverAll 17 1 ∷ []
 
-pub closed-1-before-5 : answers zeros (closed (visits 16)) (map (calls false) refusedAnyway) ≡ replicate 7 (refusedBy 1)
+pub closed-1-before-5 : answers zeros (closed (visits 16)) (map (calls false) refusedAnyway) ≡ replicate 8 (refusedBy 1)
 unfolding computes
 closed-1-before-5 = refl
 
-pub closed-5-first : answers zeros (closed (visits 16)) (map (calls true) refusedAnyway) ≡ replicate 7 (refusedBy 5)
+pub closed-5-first : answers zeros (closed (visits 16)) (map (calls true) refusedAnyway) ≡ replicate 8 (refusedBy 5)
 unfolding computes
 closed-5-first = refl
 
@@ -103,7 +130,7 @@ abbrev badCharts : List ℕ
 badCharts = set (chartBytes (pageAfter zeros [])) (32 * 5 + 2) 1
 
 -- row 1 is of no kind
-pub open-3-before-4 : openBytes (left 0) (set (logBytes []) 0 7) badCharts .answer ≡ answer 3 (pos 1)
+pub open-3-before-4 : openBytes (left 0) (set (logBytes []) 0 8) badCharts .answer ≡ answer 3 (pos 1)
 unfolding computes
 open-3-before-4 = refl
 

@@ -9,7 +9,7 @@ use lib.Dec.{leb, ltb, eqb}
 use Rattle.book.specs.Lists.{keep, times}
 use Rattle.book.specs.Limits.{visitLimit, activeLimit, pageLimit}
 use Rattle.book.specs.Rows.{Row, isCell}
-use Rattle.book.specs.Ledger.{Change, Ledger, ledger, only}
+use Rattle.book.specs.Ledger.{Change, Ledger, ledger, only, every}
 use Rattle.book.specs.Rules.{isActive, openHeld, just, room, scopeFits, holdsAny}
 use Rattle.book.specs.Cells.{applied, lastOn}
 use Rattle.book.specs.Calls.{Call, Ending, waits, forces, flushes, ending, Return, theVisit, theRow, theCell, zeroValue, returns}
@@ -41,7 +41,8 @@ abbrev pub _else_ : ℕ × Bool → ℕ → ℕ
 _else_ check later = cond (check .1) (check .0) later
 
 infixr 20 _else_
--- 01: "Refusals by place", from begin on, in checking order; 0 where none applies
+-- 01: "Refusals by place", from begin on, in checking order; 0 where none applies. 02, L2, of a whole visit: "Checks: 9, 12, 13, 8",
+-- with 13 where the giver holds nothing at all.
 unfoldable pub refusal : Book → Call → ℕ
 refusal b Call.begin =
     let l = ledgerOf b in
@@ -58,6 +59,9 @@ refusal b (Call.abort v) = (9, not (isActive (ledgerOf b) v)) else 0
 refusal b Call.force = 0
 refusal b (Call.flush p) = (14, not (ltb p pageLimit)) else 0
 refusal b (Call.read c) = (10, not (isCell c)) else 0
+refusal b (Call.handOverAll g r) =
+    let l = ledgerOf b in
+    (9, not (isActive l g)) else (9, not (isActive l r)) else (12, eqb g r) else (13, not (holdsAny l g every)) else (8, not (room l 1)) else 0
 
 -- the rows that an accepted call adds
 unfoldable pub adds : Book → Call → List Row
@@ -69,6 +73,7 @@ adds b (Call.abort v) = takeBack (just v) (ledgerOf b)
 adds b Call.force = []
 adds b (Call.flush p) = []
 adds b (Call.read c) = []
+adds b (Call.handOverAll g r) = Row.handOverAll g r ∷ []
 
 -- 01: flush forces the tail up to the page's last change or undo row, if that one waits; then the page is one write
 abbrev pub finish : Ending → Book → Book

@@ -4,7 +4,7 @@ use lib.IntN.{ℤ}
 use lib.Dec.{T}
 use Rattle.book.specs.Rows.{isAmount}
 
--- 01: begin, change, hand over, commit, abort, force, flush page, read
+-- 01: begin, change, hand over, commit, abort, force, flush page, read; 02, L2: hand over a whole visit
 pub data Call : Type 0 where
   begin : Call
   change : (visit cell : ℕ) (amount : ℤ) → Call
@@ -14,6 +14,7 @@ pub data Call : Type 0 where
   force : Call
   flush : (page : ℕ) → Call
   read : (cell : ℕ) → Call
+  handOverAll : (giver receiver : ℕ) → Call
 
 -- what an accepted call does once its rows are added
 pub data Ending : Type 0 where
@@ -31,6 +32,7 @@ ending (Call.abort v) = waits
 ending Call.force = forces
 ending (Call.flush p) = flushes p
 ending (Call.read c) = waits
+ending (Call.handOverAll g r) = waits
 
 -- what an accepted call returns
 pub data Return : Type 0 where
@@ -39,7 +41,8 @@ pub data Return : Type 0 where
   theCell : (cell : ℕ) → Return
   zeroValue : Return
 
--- 01: begin returns the visit; change, hand over, commit and abort their row's number; read a cell of the copy
+-- 01: begin returns the visit; change, hand over, commit and abort their row's number; read a cell of the copy.
+-- 02, L2: the hand-over of a whole visit "returns its row number".
 abbrev pub returns : Call → Return
 returns Call.begin = theVisit
 returns (Call.change v c a) = theRow
@@ -49,6 +52,7 @@ returns (Call.abort v) = theRow
 returns Call.force = zeroValue
 returns (Call.flush p) = zeroValue
 returns (Call.read c) = theCell c
+returns (Call.handOverAll g r) = theRow
 
 -- the amount is a signed 16-bit number, as the type of the function's argument has it; the other numbers are any at all
 abbrev pub Typed : Call → Type 0
@@ -60,3 +64,4 @@ Typed (Call.abort v) = Unit {0}
 Typed Call.force = Unit {0}
 Typed (Call.flush p) = Unit {0}
 Typed (Call.read c) = Unit {0}
+Typed (Call.handOverAll g r) = Unit {0}

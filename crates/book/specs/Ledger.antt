@@ -5,7 +5,7 @@ use mathlib.Core.List.{List, [], _∷_, map}
 use lib.IntN.{ℤ}
 use lib.Dec.{eqb}
 use Rattle.book.specs.Lists.{keep, any, foldl, without}
-use Rattle.book.specs.Rows.{Row, begin, change, handOver, undo, commit, abort}
+use Rattle.book.specs.Rows.{Row, begin, change, handOver, undo, commit, abort, handOverAll}
 
 -- A logged change, and what the rows after it have made of it.
 pub record Change : Type 0 where
@@ -90,6 +90,7 @@ begunAfter n (handOver g r c) = n
 begunAfter n (undo h c k a) = n
 begunAfter n (commit v) = n
 begunAfter n (abort v) = n
+begunAfter n (handOverAll g r) = n
 
 -- 01: active, from its begin until its commit or abort
 abbrev pub activeAfter : List ℕ → Row → List ℕ
@@ -99,6 +100,7 @@ activeAfter vs (handOver g r c) = vs
 activeAfter vs (undo h c k a) = vs
 activeAfter vs (commit v) = without v vs
 activeAfter vs (abort v) = without v vs
+activeAfter vs (handOverAll g r) = vs
 
 -- 01: the visits with a commit row
 abbrev pub committedAfter : List ℕ → Row → List ℕ
@@ -108,6 +110,7 @@ committedAfter vs (handOver g r c) = vs
 committedAfter vs (undo h c k a) = vs
 committedAfter vs (commit v) = v ∷ vs
 committedAfter vs (abort v) = vs
+committedAfter vs (handOverAll g r) = vs
 
 -- 01: the visits that an undo row bears
 abbrev pub undoingAfter : List ℕ → Row → List ℕ
@@ -117,6 +120,7 @@ undoingAfter vs (handOver g r c) = vs
 undoingAfter vs (undo h c k a) = h ∷ vs
 undoingAfter vs (commit v) = vs
 undoingAfter vs (abort v) = vs
+undoingAfter vs (handOverAll g r) = vs
 
 -- 01: the rows that an undo row names
 abbrev pub undoneAfter : List ℕ → Row → List ℕ
@@ -126,8 +130,9 @@ undoneAfter ns (handOver g r c) = ns
 undoneAfter ns (undo h c k a) = k ∷ ns
 undoneAfter ns (commit v) = ns
 undoneAfter ns (abort v) = ns
+undoneAfter ns (handOverAll g r) = ns
 
--- a change joins the changes, a hand-over passes some on
+-- a change joins the changes, a hand-over passes some on; 02, L2: one of a whole visit those of every cell that the giver holds before the row
 abbrev pub changesAfter : Ledger → Row → List Change
 changesAfter l (begin v) = l .changes
 changesAfter l (change v c a) = newChange l v c a ∷ l .changes
@@ -135,6 +140,7 @@ changesAfter l (handOver g r c) = map (pass g r (only c)) (l .changes)
 changesAfter l (undo h c k a) = l .changes
 changesAfter l (commit v) = l .changes
 changesAfter l (abort v) = l .changes
+changesAfter l (handOverAll g r) = map (pass g r every) (l .changes)
 
 -- the ledger with the row
 unfoldable pub after : Ledger → Row → Ledger

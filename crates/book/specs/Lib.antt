@@ -8,6 +8,7 @@ pub mod Cells
 pub mod Calls
 pub mod Power
 pub mod Book
+pub mod HandOverAll
 pub mod Writes
 pub mod Events
 pub mod SessionWrites

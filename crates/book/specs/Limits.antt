@@ -32,9 +32,9 @@ cellLimit = 224
 abbrev pub visitLimit : ℕ
 visitLimit = 255
 
--- 01: kinds of rows 1 to 6; kind 0 is a blank row
+-- 01: kinds of rows 1 to 6, and 02, L2: kind 7; kind 0 is a blank row
 abbrev pub kindLimit : ℕ
-kindLimit = 6
+kindLimit = 7
 
 -- 01: at most 16 active visits
 abbrev pub activeLimit : ℕ

@@ -16,8 +16,10 @@ kindOf (Row.handOver g r c) = 3
 kindOf (Row.undo h c u a) = 4
 kindOf (Row.commit v) = 5
 kindOf (Row.abort v) = 6
+kindOf (Row.handOverAll g r) = 7
 
--- 01: a constant table says, for each kind and byte, whether it may be other than zero. The line of kind 0 is that of a blank row.
+-- 01: a constant table says, for each kind and byte, whether it may be other than zero. The line of kind 0 is that of a blank row; that of kind 7 is 02, L2's: "giver
+-- and receiver, cell zero".
 abbrev pub mayBeSet : List (List ℕ)
 mayBeSet =
     (0 ∷ 0 ∷ 0 ∷ 0 ∷ 0 ∷ 0 ∷ 0 ∷ 0 ∷ 0 ∷ 0 ∷ 0 ∷ 0 ∷ 0 ∷ 0 ∷ 0 ∷ 0 ∷ []) ∷
@@ -27,6 +29,7 @@ mayBeSet =
     (1 ∷ 1 ∷ 0 ∷ 1 ∷ 1 ∷ 1 ∷ 1 ∷ 1 ∷ 1 ∷ 1 ∷ 0 ∷ 0 ∷ 0 ∷ 0 ∷ 0 ∷ 0 ∷ []) ∷
     (1 ∷ 1 ∷ 0 ∷ 0 ∷ 1 ∷ 1 ∷ 0 ∷ 0 ∷ 0 ∷ 0 ∷ 0 ∷ 0 ∷ 0 ∷ 0 ∷ 0 ∷ 0 ∷ []) ∷
     (1 ∷ 1 ∷ 0 ∷ 0 ∷ 1 ∷ 1 ∷ 0 ∷ 0 ∷ 0 ∷ 0 ∷ 0 ∷ 0 ∷ 0 ∷ 0 ∷ 0 ∷ 0 ∷ []) ∷
+    (1 ∷ 1 ∷ 1 ∷ 0 ∷ 1 ∷ 1 ∷ 0 ∷ 0 ∷ 0 ∷ 0 ∷ 0 ∷ 0 ∷ 0 ∷ 0 ∷ 0 ∷ 0 ∷ []) ∷
     []
 
 -- the table's entry, 0 beyond it
@@ -45,6 +48,7 @@ rowBytes n (Row.handOver g r c) = fields 3 g r c n 0 (pos 0)
 rowBytes n (Row.undo h c u a) = fields 4 h 0 c n u a
 rowBytes n (Row.commit v) = fields 5 v 0 0 n 0 (pos 0)
 rowBytes n (Row.abort v) = fields 6 v 0 0 n 0 (pos 0)
+rowBytes n (Row.handOverAll g r) = fields 7 g r 0 n 0 (pos 0)
 
 -- the row of a kind with these fields; of no such kind any row will do, since `isRowBytes` compares the bytes
 abbrev pub rowOfKind : ℕ → ℕ → ℕ → ℕ → ℕ → ℤ → Row
@@ -54,7 +58,8 @@ rowOfKind (suc (suc zero)) v r c u a = Row.change v c a
 rowOfKind (suc (suc (suc zero))) v r c u a = Row.handOver v r c
 rowOfKind (suc (suc (suc (suc zero)))) v r c u a = Row.undo v c u a
 rowOfKind (suc (suc (suc (suc (suc zero))))) v r c u a = Row.commit v
-rowOfKind (suc (suc (suc (suc (suc (suc k)))))) v r c u a = Row.abort v
+rowOfKind (suc (suc (suc (suc (suc (suc zero)))))) v r c u a = Row.abort v
+rowOfKind (suc (suc (suc (suc (suc (suc (suc k))))))) v r c u a = Row.handOverAll v r
 
 -- the row that 16 bytes would be
 abbrev pub rowOf : List ℕ → Row

@@ -6,7 +6,8 @@ use lib.Signed.{leZ}
 use lib.Dec.{eqb, leb, ltb}
 use Rattle.book.specs.Limits.{rowLimit, cellLimit, visitLimit}
 
--- 01: a row of the log, by its kind. Row n is the n-th of the list, from 1.
+-- 01: a row of the log, by its kind. Row n is the n-th of the list, from 1. 02, L2: `handOverAll` is "the hand-over of every cell of which the giver holds
+-- a change".
 pub data Row : Type 0 where
   begin : (visit : ℕ) → Row
   change : (visit cell : ℕ) (amount : ℤ) → Row
@@ -14,6 +15,7 @@ pub data Row : Type 0 where
   undo : (holder cell row : ℕ) (amount : ℤ) → Row
   commit : (visit : ℕ) → Row
   abort : (visit : ℕ) → Row
+  handOverAll : (giver receiver : ℕ) → Row
 
 -- ── What a row does to the charts ─────────────────────────────────────────────────────────────────────────────────────
 
@@ -30,6 +32,7 @@ effect (handOver g r c) = nothing
 effect (undo h c n a) = moves c (negℤ a)
 effect (commit v) = nothing
 effect (abort v) = nothing
+effect (handOverAll g r) = nothing
 
 -- the row that an undo row names, 0 for every other row
 abbrev pub undoneBy : Row → ℕ
@@ -39,6 +42,7 @@ undoneBy (handOver g r c) = 0
 undoneBy (undo h c n a) = n
 undoneBy (commit v) = 0
 undoneBy (abort v) = 0
+undoneBy (handOverAll g r) = 0
 
 -- an undo row: rows are numbered from 1
 abbrev pub isUndo : Row → Bool
@@ -52,6 +56,7 @@ abortedBy (handOver g r c) = 0
 abortedBy (undo h c n a) = 0
 abortedBy (commit v) = 0
 abortedBy (abort v) = v
+abortedBy (handOverAll g r) = 0
 
 -- ── The fields fit their bytes (01: the table of bytes) ───────────────────────────────────────────────────────────────
 
@@ -79,3 +84,4 @@ fits (handOver g r c) = isVisit g && isVisit r && isCell c
 fits (undo h c n a) = isVisit h && isCell c && isRowNumber n && isAmount a
 fits (commit v) = isVisit v
 fits (abort v) = isVisit v
+fits (handOverAll g r) = isVisit g && isVisit r

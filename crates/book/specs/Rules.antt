@@ -8,8 +8,8 @@ use lib.IntN.{ℤ}
 use lib.Dec.{leb, ltb, eqb}
 use Rattle.book.specs.Lists.{keep, any, member, eqZ}
 use Rattle.book.specs.Limits.{rowLimit, activeLimit, scopeLimit}
-use Rattle.book.specs.Rows.{Row, begin, change, handOver, undo, commit, abort, fits}
-use Rattle.book.specs.Ledger.{Change, Ledger, empty, after, startsScope, only, holds}
+use Rattle.book.specs.Rows.{Row, begin, change, handOver, undo, commit, abort, handOverAll, fits}
+use Rattle.book.specs.Ledger.{Change, Ledger, empty, after, startsScope, only, every, holds}
 
 -- ── The words of the rules ────────────────────────────────────────────────────────────────────────────────────────────
 
@@ -69,9 +69,13 @@ scopeFits l v c = not (startsScope l v c) || ltb (scopesInUse l) scopeLimit
 abbrev pub holdsAny : Ledger → ℕ → (ℕ → Bool) → Bool
 holdsAny l v cs = any (holds v cs) (l .changes)
 
--- giver and receiver are two active visits that no undo row bears, and the giver holds a change of a cell of the set
+-- giver and receiver are two active visits that no undo row bears
+abbrev pub mayPass : Ledger → ℕ → ℕ → Bool
+mayPass l g r = not (eqb g r) && isActive l g && isActive l r && not (bearsUndo l g) && not (bearsUndo l r)
+
+-- they are, and the giver holds a change of a cell of the set
 abbrev pub mayHandOver : Ledger → ℕ → ℕ → (ℕ → Bool) → Bool
-mayHandOver l g r cs = not (eqb g r) && isActive l g && isActive l r && not (bearsUndo l g) && not (bearsUndo l r) && holdsAny l g cs
+mayHandOver l g r cs = mayPass l g r && holdsAny l g cs
 
 -- the list's first change has this row number, cell and amount
 abbrev pub isFirst : List Change → ℕ → ℕ → ℤ → Bool
@@ -80,7 +84,8 @@ isFirst (x ∷ xs) n c a = eqb (x .row) n && eqb (x .cell) c && eqZ (x .amount) 
 
 -- ── The rules ─────────────────────────────────────────────────────────────────────────────────────────────────────────
 
--- 01: what a row needs of visits, cells, holders and undo rows
+-- 01: what a row needs of visits, cells, holders and undo rows; 02, L2: one of kind 7 that the two visits are as for a single cell, and that "the giver
+-- holds something"
 unfoldable pub lawful : Ledger → Row → Bool
 lawful l (begin v) = eqb v (suc (l .begun))
 lawful l (change v c a) = isActive l v && not (bearsUndo l v)
@@ -88,8 +93,9 @@ lawful l (handOver g r c) = mayHandOver l g r (only c)
 lawful l (undo h c n a) = isFirst (openHeld (just h) l) n c a
 lawful l (commit v) = isActive l v && not (bearsUndo l v)
 lawful l (abort v) = isActive l v && not (any (λ x. just v (x .holder)) (openChanges l))
+lawful l (handOverAll g r) = mayHandOver l g r every
 
--- 01: what a row needs of the sixteen visits, the scopes and the free rows
+-- 01: what a row needs of the sixteen visits, the scopes and the free rows; 02, L2: one of kind 7 that "one row is free beyond the reserve"
 unfoldable pub withinLimits : Ledger → Row → Bool
 withinLimits l (begin v) = ltb (length (l .active)) activeLimit && room l 2
 withinLimits l (change v c a) = scopeFits l v c && room l 2
@@ -97,6 +103,7 @@ withinLimits l (handOver g r c) = room l 1
 withinLimits l (undo h c n a) = true
 withinLimits l (commit v) = true
 withinLimits l (abort v) = true
+withinLimits l (handOverAll g r) = room l 1
 
 -- 01: a row is allowed after the rows before it
 unfoldable pub allowed : Ledger → Row → Bool

@@ -69,6 +69,7 @@ isFlush (Call.abort v) = false
 isFlush Call.force = false
 isFlush (Call.flush p) = true
 isFlush (Call.read c) = false
+isFlush (Call.handOverAll g r) = false
 
 -- a flush that is done
 abbrev pub flushDone : Event → ℕ → Bool

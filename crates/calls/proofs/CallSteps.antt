@@ -12,7 +12,7 @@ use Rattle.tables_model.specs.declared.Tables.{Tables}
 use Rattle.tables_model.specs.Visits.{withBegun}
 use Rattle.tables_model.specs.Table.{scopesHanded}
 use Rattle.tables_model.specs.Rows.{Index, afterChange, afterEnd}
-use Rattle.book.specs.Ledger.{only}
+use Rattle.book.specs.Ledger.{only, every}
 use Rattle.book.specs.Scopes.{Scope}
 use Rattle.charts.specs.Moves.{chartsMoved}
 use Rattle.journal.specs.Journal.{Journal, appended, forced, forcedUpTo, Paged, paged}
@@ -54,6 +54,11 @@ module _ (x : Core) where
       → record { ram = m; charts = x .charts; tables = x .tables; scopes = ss } ≡ acted x (Call.handOver g r c)
   unfolding acted
   hands-over g r c m ss p q = rw (p, q)
+
+  pub hands-over-all : (g r : ℕ) (m : Ram) (ss : List Scope) → m ≡ written (x .ram) (Row.handOverAll g r) → ss ≡ scopesHanded (x .tables .used) g r every (x .scopes)
+      → record { ram = m; charts = x .charts; tables = x .tables; scopes = ss } ≡ acted x (Call.handOverAll g r)
+  unfolding acted
+  hands-over-all g r m ss p q = rw (p, q)
 
   pub commits : (v : ℕ) (m : Ram) (i : Index) (j : Journal) → i ≡ afterEnd (indexIn x) v → m ≡ written (x .ram) (Row.commit v) → j ≡ forced (m .journal)
       → assembled (record { journal = j; copy = m .copy }) (x .charts) i ≡ acted x (Call.commit v)

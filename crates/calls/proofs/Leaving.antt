@@ -51,6 +51,7 @@ ranges-acted x (Call.abort v) h e = step-range (indexIn (fell x v)) 0 0 (Row.abo
 ranges-acted x Call.force h e = h
 ranges-acted x (Call.flush p) h e = h
 ranges-acted x (Call.read c) h e = h
+ranges-acted x (Call.handOverAll g r) h e = h
 
 -- ── The answer ────────────────────────────────────────────────────────────────────────────────────────────────────────
 
@@ -65,6 +66,7 @@ value-now x (Call.abort v) rows = refl
 value-now x Call.force rows = refl
 value-now x (Call.flush p) rows = refl
 value-now x (Call.read c) rows = refl
+value-now x (Call.handOverAll g r) rows = refl
 
 -- what a done call answers with is no refusal
 apart : (r : Return) → doneCase r ≢ refusal

@@ -20,6 +20,7 @@ use crate::act::change;
 use crate::act::commit;
 use crate::act::flush;
 use crate::act::hand_over;
+use crate::act::hand_over_all;
 use charts::charts::read_cell;
 use journal::Control;
 use journal::Outcome;
@@ -142,6 +143,27 @@ pub fn accept_hand_over(
         (now (log .exit)) charts (now (copy .exit)) (now (tail .exit)) (now (visits .exit)) (now (scopes .exit))) ⌝ }
 {
     let a = hand_over(c, t, visits, log, copy, tail, scopes, g, v, k);
+    let d = a.control;
+    let answer = row_answer(d);
+    settle(c.stored, a, answer, 0, copy, tail, visits, scopes)
+}
+
+pub fn accept_hand_over_all(
+    c: Control,
+    t: Counts,
+    visits: &mut [u16],
+    log: &mut [u8],
+    copy: &mut [u8],
+    tail: &mut [u8],
+    scopes: &mut [u16],
+    g: Visit,
+    v: Visit,
+) -> Outcome
+    requires { ⌜ Accepts c t (length (now log)) (length (now copy)) (length (now tail)) (now visits) (now scopes) (Call.handOverAll (g .0) (v .0)) ⌝ }
+    ensures { λ r. ⌜ ((charts : List ℕ) → Accepted (core c t (now (visits .entry)) (now (log .entry)) charts (now (copy .entry)) (now (tail .entry)) (now (scopes .entry))) (Call.handOverAll (g .0) (v .0)) r
+        (now (log .exit)) charts (now (copy .exit)) (now (tail .exit)) (now (visits .exit)) (now (scopes .exit))) ⌝ }
+{
+    let a = hand_over_all(c, t, visits, log, copy, tail, scopes, g, v);
     let d = a.control;
     let answer = row_answer(d);
     settle(c.stored, a, answer, 0, copy, tail, visits, scopes)

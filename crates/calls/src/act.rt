@@ -107,6 +107,30 @@ pub(crate) fn hand_over(
     }
 }
 
+// One row, whatever the number of cells.
+pub(crate) fn hand_over_all(
+    c: Control,
+    t: Counts,
+    visits: &mut [u16],
+    log: &mut [u8],
+    copy: &mut [u8],
+    tail: &mut [u8],
+    scopes: &mut [u16],
+    g: Visit,
+    r: Visit,
+) -> Acted
+    requires { ⌜ Accepts c t (length (now log)) (length (now copy)) (length (now tail)) (now visits) (now scopes) (Call.handOverAll (g .0) (r .0)) ⌝ }
+    ensures { λ x. ⌜ ((charts : List ℕ) → core (x .control) (x .counts) (now (visits .exit)) (now (log .exit)) charts (now (copy .exit)) (now (tail .exit)) (now (scopes .exit))
+        ≡ acted (core c t (now (visits .entry)) (now (log .entry)) charts (now (copy .entry)) (now (tail .entry)) (now (scopes .entry))) (Call.handOverAll (g .0) (r .0))) ⌝ }
+{
+    tables::updates::hand_over(scopes, t.used, g, r, CellSet::Every);
+    let control = write(c, log, tail, copy, Row::HandOverAll(g, r));
+    Acted {
+        control: control,
+        counts: t,
+    }
+}
+
 // A commit is forced.
 pub(crate) fn commit(
     c: Control,

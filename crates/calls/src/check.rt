@@ -30,6 +30,7 @@ use rows::limits::TAIL_LIMIT;
 use state::answers::Answer;
 use state::ram::Phase;
 use state::requests::Request;
+use tables_model::CellSet;
 use tables_model::Counts;
 
 // The counters are within their limits.
@@ -102,7 +103,26 @@ pub fn check_hand_over(
     if !is_ready(c, t) {
         return Answer::Closed;
     }
-    refuse_hand_over(t, visits, scopes, c.stored + c.waiting, g, r, k)
+    let one = CellSet::Only(k);
+    refuse_hand_over(t, visits, scopes, c.stored + c.waiting, g, r, one)
+}
+
+pub fn check_hand_over_all(
+    c: Control,
+    t: Counts,
+    visits: &[u16],
+    scopes: &[u16],
+    g: Visit,
+    r: Visit,
+) -> Answer
+    requires { ⌜ Flat (length (now visits)) (length (now scopes)) ⌝ }
+    ensures { λ x. ⌜ numberAndValue x ≡ refusedBy (numberBy c (tablesIn t (now (visits .entry))) (entries (now (scopes .entry))) (Call.handOverAll (g .0) (r .0))) ⌝ }
+{
+    if !is_ready(c, t) {
+        return Answer::Closed;
+    }
+    let all = CellSet::Every;
+    refuse_hand_over(t, visits, scopes, c.stored + c.waiting, g, r, all)
 }
 
 // Commit and abort.
@@ -160,5 +180,6 @@ pub fn check(c: Control, t: Counts, visits: &[u16], scopes: &[u16], request: Req
         Request::Force => check_force(c, t),
         Request::Flush(p) => check_flush(c, t, p),
         Request::Read(k) => check_read(c, t, k),
+        Request::HandOverAll(g, r) => check_hand_over_all(c, t, visits, scopes, g, r),
     }
 }

@@ -14,7 +14,8 @@ ghost use Rattle.book.specs.Rows.{isCell};
 ghost use Rattle.tables_model.specs.Visits.{tablesIn, Listed, isListed};
 ghost use Rattle.tables_model.specs.Rows.{Ready, Ranged, index};
 ghost use Rattle.state.specs.Answers.{numberAndValue};
-ghost use Rattle.calls_model.specs.Refusals.{refusalBy};
+ghost use Rattle.tables_model.specs.Table.{among};
+ghost use Rattle.calls_model.specs.Refusals.{cellsInRange, handOverRefusal, refusalBy};
 use rows::Cell;
 use rows::Visit;
 use rows::limits::ACTIVE_LIMIT;
@@ -76,6 +77,17 @@ pub(crate) fn refuse_change(
     }
 }
 
+// A hand-over of one cell names one that there is; one of all cells names none.
+fn cells_in_range(cs: CellSet) -> bool
+    ensures { λ r. ⌜ r ≡ cellsInRange cs ⌝ }
+{
+    match cs {
+        CellSet::Only(c) => is_cell(c),
+        CellSet::Every => true,
+    }
+}
+
+// A hand-over of one cell, or of all.
 pub(crate) fn refuse_hand_over(
     t: Counts,
     visits: &[u16],
@@ -83,10 +95,10 @@ pub(crate) fn refuse_hand_over(
     rows: usize,
     g: Visit,
     r: Visit,
-    c: Cell,
+    cs: CellSet,
 ) -> Answer
     requires { ⌜ Ready t (length (now visits)) (length (now scopes)) ⌝ }
-    ensures { λ x. ⌜ numberAndValue x ≡ refusedBy (refusalBy (index t (now (visits .entry)) (now (scopes .entry))) rows (Call.handOver (g .0) (r .0) (c .0))) ⌝ }
+    ensures { λ x. ⌜ numberAndValue x ≡ refusedBy (handOverRefusal (index t (now (visits .entry)) (now (scopes .entry))) rows (g .0) (r .0) (cellsInRange cs) (among cs)) ⌝ }
 {
     if !is_listed(t, visits, g) {
         return Answer::NotActive;
@@ -97,10 +109,10 @@ pub(crate) fn refuse_hand_over(
     if g.0 == r.0 {
         return Answer::SameVisit;
     }
-    if !is_cell(c) {
+    if !cells_in_range(cs) {
         return Answer::NoSuchCell;
     }
-    if !holds_cell(scopes, t.used, g, CellSet::Only(c)) {
+    if !holds_cell(scopes, t.used, g, cs) {
         return Answer::HoldsNone;
     }
     if has_room(t, scopes, rows, 1) {

@@ -27,7 +27,7 @@ use Rattle.wal.specs.Writing.{rowCount}
 use Rattle.wal.proofs.RowsLookedUp.{count-rows}
 use Rattle.calls_model.specs.Acts.{Core, acted, valueBy}
 use Rattle.calls_model.proofs.Cores.{coreFor, Reaches}
-use Rattle.calls_model.proofs.RowCalls.{acted-begin, acted-change, acted-handOver, acted-commit}
+use Rattle.calls_model.proofs.RowCalls.{acted-begin, acted-change, acted-handOver, acted-handOverAll, acted-commit}
 use Rattle.calls_model.proofs.AbortCall.{acted-abort}
 use Rattle.calls_model.proofs.StoringCalls.{acted-force, acted-flush, acted-read}
 
@@ -59,6 +59,7 @@ module _ (cells : ℕ → ℤ) (b : Book) (charts : List ℕ) (s : Sound b) (o :
   acted-reaches Call.force t e = acted-force cells b charts s
   acted-reaches (Call.flush p) t e = acted-flush cells b charts p s e
   acted-reaches (Call.read c) t e = acted-read cells b charts s c
+  acted-reaches (Call.handOverAll g r) t e = acted-handOverAll cells b charts s o g r e
 
   -- the number of the last row that the call added
   row-value : (k : Call) (done : List ℕ) → Reaches cells (through b k) charts done (acted (coreFor cells b charts) k) → through b k .isOpen ≡ true
@@ -78,5 +79,6 @@ module _ (cells : ℕ → ℤ) (b : Book) (charts : List ℕ) (s : Sound b) (o :
   value-is (Call.abort v) range t e q = row-value (Call.abort v) charts (acted-reaches (Call.abort v) t e) q
   value-is Call.force range t e q = refl
   value-is (Call.flush p) range t e q = refl
+  value-is (Call.handOverAll g r) range t e q = row-value (Call.handOverAll g r) charts (acted-reaches (Call.handOverAll g r) t e) q
   value-is (Call.read c) range t e q =
       cell-is cells b range s c (ltb-true c cellLimit (not-false (isCell c) (passes (not (isCell c)) 9 _ e .0)))

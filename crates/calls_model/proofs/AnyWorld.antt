@@ -11,7 +11,7 @@ use Rattle.tables_model.specs.Entries.{scopeIn}
 use Rattle.book.specs.Lists.{member}
 use Rattle.book.specs.Limits.{visitLimit, activeLimit, scopeLimit, pageLimit}
 use Rattle.book.specs.Rows.{isCell}
-use Rattle.book.specs.Ledger.{only}
+use Rattle.book.specs.Ledger.{only, every}
 use Rattle.book.specs.Calls.{Call, ending}
 use Rattle.book.specs.Writes.{Writes, pagesOf}
 use Rattle.book.proofs.Lists.{clash}
@@ -51,6 +51,9 @@ refusal-own x rows (Call.abort v) = check (not (isListed (x .tables) v)) (own re
 refusal-own x rows Call.force = own refl
 refusal-own x rows (Call.flush p) = check (not (ltb p pageLimit)) (own refl) (own refl)
 refusal-own x rows (Call.read c) = check (not (isCell c)) (own refl) (own refl)
+refusal-own x rows (Call.handOverAll g r) =
+    check (not (isListed (x .tables) g)) (own refl) (check (not (isListed (x .tables) r)) (own refl) (check (eqb g r) (own refl)
+    (check (not (holdsBy x g every)) (own refl) (check (not (roomBy x rows 1)) (own refl) (own refl)))))
 
 -- ── A power failure ───────────────────────────────────────────────────────────────────────────────────────────────────
 
@@ -79,6 +82,7 @@ charts-cut x (Call.abort v) e = refl
 charts-cut x Call.force e = refl
 charts-cut x (Call.flush p) e = page-cut _ (x .charts) p _ e
 charts-cut x (Call.read c) e = refl
+charts-cut x (Call.handOverAll g r) e = refl
 
 -- what an accepted call gives back and leaves: done, or closed with the charts as they were
 data Settled (charts : List ℕ) (r : Answered) : Type 0 where

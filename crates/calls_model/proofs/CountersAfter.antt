@@ -58,3 +58,4 @@ counters-acted x (Call.flush p) n =
     counters-paged _ (x .charts) p _
     (counters-forcedUpTo (x .ram .journal) n (flushCount x p) (up-to (upToMark x p) (x .ram .journal .control .waiting)))
 counters-acted x (Call.read c) n = n
+counters-acted x (Call.handOverAll g r) n = counters-written (x .ram) _ n

@@ -8,7 +8,7 @@ use lib.Dec.{eqb, leb, ltb}
 use Rattle.book.specs.Limits.{visitLimit, activeLimit, scopeLimit}
 use Rattle.book.specs.Rows.{isCell}
 use Rattle.book.specs.Rules.{isActive, room, scopeFits, holdsAny}
-use Rattle.book.specs.Ledger.{only}
+use Rattle.book.specs.Ledger.{only, every}
 use Rattle.book.specs.Calls.{Call}
 use Rattle.book.specs.Power.{Book, rowsOf, ledgerOf}
 use Rattle.book.specs.Book.{_else_, refusal}
@@ -19,7 +19,7 @@ use Rattle.tables_model.specs.Lookup.{indexOf}
 use Rattle.tables_model.proofs.ActiveVisits.{is-listed}
 use Rattle.tables_model.proofs.Judge.{holds-by, room-by, fits-by}
 use Rattle.wal.proofs.Steady.{Steady}
-use Rattle.calls_model.specs.Refusals.{refusalBy}
+use Rattle.calls_model.specs.Refusals.{handOverRefusal, refusalBy}
 
 module _ (b : Book) (s : Steady b) where
   refused-begin : refusalBy (indexOf (ledgerOf b)) (length (rowsOf b)) Call.begin ≡ refusal b Call.begin
@@ -41,27 +41,30 @@ module _ (b : Book) (s : Steady b) where
           (fits-by (rowsOf b) (s .allowed) v c act) (room-by (rowsOf b) (s .allowed) 2)
       go false act = refl
 
-  refused-handOver : (g r c : ℕ) → refusalBy (indexOf (ledgerOf b)) (length (rowsOf b)) (Call.handOver g r c) ≡ refusal b (Call.handOver g r c)
-  unfolding refusalBy refusal
-  refused-handOver g r c = rw (is-listed (ledgerOf b) g, is-listed (ledgerOf b) r) (go (isActive (ledgerOf b) g) refl)
+  -- a hand-over of these cells; `inRange` is the check of the cell, where the call names one
+  refused-handed : (g r : ℕ) (inRange : Bool) (cs : ℕ → Bool) → handOverRefusal (indexOf (ledgerOf b)) (length (rowsOf b)) g r inRange cs
+      ≡ ((9, not (isActive (ledgerOf b) g)) else (9, not (isActive (ledgerOf b) r)) else (12, eqb g r) else (10, not inRange) else
+      (13, not (holdsAny (ledgerOf b) g cs)) else (8, not (room (ledgerOf b) 1)) else 0)
+  refused-handed g r inRange cs = rw (is-listed (ledgerOf b) g, is-listed (ledgerOf b) r) (go (isActive (ledgerOf b) g) refl)
     where
       go : (t : Bool) → isActive (ledgerOf b) g ≡ t
-          → ((9, not t) else (9, not (isActive (ledgerOf b) r)) else (12, eqb g r) else (10, not (isCell c)) else
-          (13, not (holdsBy (indexOf (ledgerOf b)) g (only c))) else (8, not (roomBy (indexOf (ledgerOf b)) (length (rowsOf b)) 1)) else 0)
-          ≡ ((9, not t) else (9, not (isActive (ledgerOf b) r)) else (12, eqb g r) else (10, not (isCell c)) else
-          (13, not (holdsAny (ledgerOf b) g (only c))) else (8, not (room (ledgerOf b) 1)) else 0)
+          → ((9, not t) else (9, not (isActive (ledgerOf b) r)) else (12, eqb g r) else (10, not inRange) else
+          (13, not (holdsBy (indexOf (ledgerOf b)) g cs)) else (8, not (roomBy (indexOf (ledgerOf b)) (length (rowsOf b)) 1)) else 0)
+          ≡ ((9, not t) else (9, not (isActive (ledgerOf b) r)) else (12, eqb g r) else (10, not inRange) else
+          (13, not (holdsAny (ledgerOf b) g cs)) else (8, not (room (ledgerOf b) 1)) else 0)
       go true act =
-          ap₂ (λ (h n : Bool). (9, not (isActive (ledgerOf b) r)) else (12, eqb g r) else (10, not (isCell c)) else (13, not h) else (8, not n) else 0)
-          (holds-by (ledgerOf b) g (only c) (scoped-log (rowsOf b)) act) (room-by (rowsOf b) (s .allowed) 1)
+          ap₂ (λ (h n : Bool). (9, not (isActive (ledgerOf b) r)) else (12, eqb g r) else (10, not inRange) else (13, not h) else (8, not n) else 0)
+          (holds-by (ledgerOf b) g cs (scoped-log (rowsOf b)) act) (room-by (rowsOf b) (s .allowed) 1)
       go false act = refl
 
   pub refusal-by : (k : Call) → refusalBy (indexOf (ledgerOf b)) (length (rowsOf b)) k ≡ refusal b k
   unfolding refusalBy refusal
   refusal-by Call.begin = refused-begin
   refusal-by (Call.change v c a) = refused-change v c a
-  refusal-by (Call.handOver g r c) = refused-handOver g r c
+  refusal-by (Call.handOver g r c) = refused-handed g r (isCell c) (only c)
   refusal-by (Call.commit v) = ap (λ (t : Bool). (9, not t) else 0) (is-listed (ledgerOf b) v)
   refusal-by (Call.abort v) = ap (λ (t : Bool). (9, not t) else 0) (is-listed (ledgerOf b) v)
   refusal-by Call.force = refl
   refusal-by (Call.flush p) = refl
   refusal-by (Call.read c) = refl
+  refusal-by (Call.handOverAll g r) = refused-handed g r true every

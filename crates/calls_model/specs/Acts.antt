@@ -1,14 +1,14 @@
 -- What an accepted call does to journal, copy, charts and tables.
 use Prim.Native.Nat.{ℕ, suc, _+_, _-_}
 use mathlib.Core.Path.{_≡_}
-use mathlib.Core.Bool.{true, cond}
+use mathlib.Core.Bool.{Bool, true, cond}
 use mathlib.Core.List.{List}
 use lib.ListN.{length}
 use lib.IntN.{ℤ, pos}
 use lib.Dec.{leb}
 use Rattle.book.specs.Rows.{Row}
 use Rattle.book.specs.Scopes.{Scope}
-use Rattle.book.specs.Ledger.{only}
+use Rattle.book.specs.Ledger.{only, every}
 use Rattle.book.specs.Calls.{Call, Return, theVisit, theRow, theCell, zeroValue, returns}
 use Rattle.book.specs.Pages.{pageAt, pageOf, cellOf}
 use Rattle.tables_model.specs.declared.Counts.{Counts}
@@ -77,18 +77,22 @@ flushed x p =
       scopes = x .scopes;
     }
 
+-- the row is written, and the giver's scopes of these cells pass to the receiver
+abbrev pub handed : Core → Row → ℕ → ℕ → (ℕ → Bool) → Core
+handed x row g r cs = record { ram = written (x .ram) row; charts = x .charts; tables = x .tables; scopes = scopesHanded (x .tables .used) g r cs (x .scopes) }
+
 unfoldable pub acted : Core → Call → Core
 acted x Call.begin =
     let v : ℕ = suc (x .tables .begun) in
     record { ram = written (x .ram) (Row.begin v); charts = x .charts; tables = withBegun (x .tables) v; scopes = x .scopes }
 acted x (Call.change v c a) = changed x v c a
-acted x (Call.handOver g r c) =
-    record { ram = written (x .ram) (Row.handOver g r c); charts = x .charts; tables = x .tables; scopes = scopesHanded (x .tables .used) g r (only c) (x .scopes) }
+acted x (Call.handOver g r c) = handed x (Row.handOver g r c) g r (only c)
 acted x (Call.commit v) = visitEnded (withRam x (forcedRam (written (x .ram) (Row.commit v)))) v
 acted x (Call.abort v) = let y : Core = fell x v in visitEnded (withRam y (written (y .ram) (Row.abort v))) v
 acted x Call.force = withRam x (forcedRam (x .ram))
 acted x (Call.flush p) = flushed x p
 acted x (Call.read c) = x
+acted x (Call.handOverAll g r) = handed x (Row.handOverAll g r) g r every
 
 -- the value of an accepted call by what it returns: of the visits begun before it, the rows after it, and the copy
 abbrev pub valueFrom : ℕ → ℕ → List ℕ → Return → ℤ

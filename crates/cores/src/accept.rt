@@ -12,6 +12,7 @@ use calls::accept::accept_commit;
 use calls::accept::accept_flush;
 use calls::accept::accept_force;
 use calls::accept::accept_hand_over;
+use calls::accept::accept_hand_over_all;
 use calls::accept::accept_read;
 use journal::Control;
 use journal::Outcome;
@@ -53,5 +54,16 @@ pub fn accept(
         Request::Force => accept_force(c, t, visits, log, copy, tail, scopes),
         Request::Flush(p) => accept_flush(c, t, visits, log, charts, copy, tail, scopes, p),
         Request::Read(k) => accept_read(c, t, visits, log, copy, tail, scopes, k),
+        Request::HandOverAll(g, v) => accept_hand_over_all(
+            c,
+            t,
+            visits,
+            log,
+            copy,
+            tail,
+            scopes,
+            g,
+            v,
+        ),
     }
 }

@@ -1,4 +1,4 @@
-// The ten calls for C. Each is lent five arrays of RAM (head, visits, scopes, tail and copy), which it works on where they lie, the stored log and the
+// The calls for C, a function each. Each is lent five arrays of RAM (head, visits, scopes, tail and copy), which it works on where they lie, the stored log and the
 // stored charts; an array crosses as a pointer, a slice as a pointer and a length.
 mod head; // where the journal stands and the counters, in eight numbers
 mod opening; // format and open on the arrays
@@ -121,6 +121,34 @@ pub extern "C" fn chart_hand_over_on(
         giver,
         receiver,
         cell,
+    )
+}
+
+#[no_mangle]
+pub extern "C" fn chart_hand_over_all_on(
+    head: &mut [u32; HEAD_LENGTH],
+    visits: &mut [u16; VISITS_LENGTH],
+    scopes: &mut [u16; FLAT_LENGTH],
+    tail: &mut [u8; TAIL_LENGTH],
+    copy: &mut [u8; CHARTS_LENGTH],
+    log: &mut [u8],
+    charts: &mut [u8],
+    giver: u16,
+    receiver: u16,
+) -> u64
+    ensures { λ r. ⌜ CallsOfC (Call.handOverAll giver receiver) (arrays (now (head .entry)) (now (visits .entry)) (now (scopes .entry)) (now (tail .entry)) (now (copy .entry)) (now (log .entry)) (now (charts .entry))) r
+        (arrays (now (head .exit)) (now (visits .exit)) (now (scopes .exit)) (now (tail .exit)) (now (copy .exit)) (now (log .exit)) (now (charts .exit))) ⌝ }
+{
+    run::hand_over_all(
+        head,
+        visits,
+        scopes,
+        tail,
+        copy,
+        log,
+        charts,
+        giver,
+        receiver,
     )
 }
 

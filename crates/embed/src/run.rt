@@ -13,6 +13,7 @@ use calls::accept::accept_commit;
 use calls::accept::accept_flush;
 use calls::accept::accept_force;
 use calls::accept::accept_hand_over;
+use calls::accept::accept_hand_over_all;
 use calls::accept::accept_read;
 use calls::check::check_begin;
 use calls::check::check_change;
@@ -20,6 +21,7 @@ use calls::check::check_end;
 use calls::check::check_flush;
 use calls::check::check_force;
 use calls::check::check_hand_over;
+use calls::check::check_hand_over_all;
 use calls::check::check_read;
 use journal::lengths::stored_fit;
 use rows::Cell;
@@ -113,6 +115,36 @@ pub(crate) fn hand_over(
         return packed(refusal);
     }
     let r = accept_hand_over(c, t, visits, log, copy, tail, scopes, g, v, k);
+    finish(head, r)
+}
+
+pub(crate) fn hand_over_all(
+    head: &mut [u32],
+    visits: &mut [u16],
+    scopes: &mut [u16],
+    tail: &mut [u8],
+    copy: &mut [u8],
+    log: &mut [u8],
+    charts: &mut [u8],
+    giver: u16,
+    receiver: u16,
+) -> u64
+    requires { ⌜ RamLengths (arrays (now head) (now visits) (now scopes) (now tail) (now copy) (now log) (now charts)) ⌝ }
+    ensures { λ r. ⌜ CallsOfC (Call.handOverAll giver receiver) (arrays (now (head .entry)) (now (visits .entry)) (now (scopes .entry)) (now (tail .entry)) (now (copy .entry)) (now (log .entry)) (now (charts .entry))) r
+        (arrays (now (head .exit)) (now (visits .exit)) (now (scopes .exit)) (now (tail .exit)) (now (copy .exit)) (now (log .exit)) (now (charts .exit))) ⌝ }
+{
+    if !stored_fit(log.len(), charts.len()) {
+        return packed(Answer::WrongLength);
+    }
+    let c = control_in(head);
+    let t = counts_in(head);
+    let g = Visit(giver);
+    let v = Visit(receiver);
+    let refusal = check_hand_over_all(c, t, visits, scopes, g, v);
+    if number_of(refusal) != 0 {
+        return packed(refusal);
+    }
+    let r = accept_hand_over_all(c, t, visits, log, copy, tail, scopes, g, v);
     finish(head, r)
 }
 

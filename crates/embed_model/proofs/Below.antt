@@ -72,6 +72,8 @@ below-row n (Row.undo h c u a) e =
     below-fields 4 h 0 c n u a (omega arith) (visit-byte h (and-l (isVisit h) _ f)) (omega arith) (cell-byte c (and-r (isVisit h) _ f))
 below-row n (Row.commit v) e = below-fields 5 v 0 0 n 0 (pos 0) (omega arith) (visit-byte v e) (omega arith) (omega arith)
 below-row n (Row.abort v) e = below-fields 6 v 0 0 n 0 (pos 0) (omega arith) (visit-byte v e) (omega arith) (omega arith)
+below-row n (Row.handOverAll g r) e =
+    below-fields 7 g r 0 n 0 (pos 0) (omega arith) (visit-byte g (and-l (isVisit g) _ e)) (visit-byte r (and-r (isVisit g) _ e)) (omega arith)
 
 pub below-rows : (n : ℕ) (l : Ledger) (rs : List Row) → allAllowed l rs ≡ true → Below 256 (rowsBytes n rs)
 unfolding Below

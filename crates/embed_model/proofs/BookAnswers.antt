@@ -53,6 +53,7 @@ numbers-below (Call.abort v) = omega arith
 numbers-below Call.force = omega arith
 numbers-below (Call.flush p) = omega arith
 numbers-below (Call.read c) = omega arith
+numbers-below (Call.handOverAll g r) = omega arith
 
 -- ── Values ────────────────────────────────────────────────────────────────────────────────────────────────────────────
 
@@ -73,6 +74,7 @@ value-bits cells small b s (Call.commit v) h = omega arith
 value-bits cells small b s (Call.abort v) h = omega arith
 value-bits cells small b s Call.force h = omega arith
 value-bits cells small b s (Call.flush p) h = omega arith
+value-bits cells small b s (Call.handOverAll g r) h = omega arith
 value-bits cells small b s (Call.read c) h =
     abs-bits 135217728 (applied cells (rowsOf b) c) (abs-applied cells (rowsOf b) c 1000000 (s .allowed) (few-rows (rowsOf b) (s .allowed)) (small c)) (omega arith)
 

@@ -58,6 +58,7 @@ typed-call (Call.abort v) h = tt
 typed-call Call.force h = tt
 typed-call (Call.flush p) h = tt
 typed-call (Call.read c) h = tt
+typed-call (Call.handOverAll g r) h = tt
 
 -- the host's own arrays stand for the book
 pub record Stands (cells : ℕ → ℤ) (b : Book) (own : Arrays) : Type 0 where

@@ -35,7 +35,7 @@ pub record OpensOfC (fuse : ℕ) (given : Arrays) (r : ℕ) (leaves : Arrays) : 
   pub clears : answerIn r .number ≢ 0 → answerIn r .number ≢ 1 → Zero leaves
   pub sized : RamLengths leaves
 
--- the other eight, each with the call that its name and arguments are
+-- the others, each with the call that its name and arguments are
 pub record CallsOfC (k : Call) (given : Arrays) (r : ℕ) (leaves : Arrays) : Type 0 where
   pub does : CallPost k (worldIn given) (answeredIn r leaves)
   -- a refusal changes nothing

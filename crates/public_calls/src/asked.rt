@@ -31,6 +31,7 @@ pub(crate) fn asked_by(
         6 => Asked::Call(Request::Flush(cell)),
         7 => Asked::Call(Request::Force),
         8 => Asked::Call(Request::Read(Cell(cell))),
+        9 => Asked::Call(Request::HandOverAll(Visit(visit), Visit(receiver))),
         _ => Asked::Open(fuse_by(limited as u64, writes as u64)),
     }
 }

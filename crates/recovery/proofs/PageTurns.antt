@@ -40,7 +40,8 @@ redone-by-kind (suc (suc zero)) v r c u a p n bs = refl
 redone-by-kind (suc (suc (suc zero))) v r c u a p n bs = cond-same (eqb (c / 7) p) bs
 redone-by-kind (suc (suc (suc (suc zero)))) v r c u a p n bs = refl
 redone-by-kind (suc (suc (suc (suc (suc zero))))) v r c u a p n bs = cond-same (eqb (c / 7) p) bs
-redone-by-kind (suc (suc (suc (suc (suc (suc k)))))) v r c u a p n bs = cond-same (eqb (c / 7) p) bs
+redone-by-kind (suc (suc (suc (suc (suc (suc zero)))))) v r c u a p n bs = cond-same (eqb (c / 7) p) bs
+redone-by-kind (suc (suc (suc (suc (suc (suc (suc k))))))) v r c u a p n bs = cond-same (eqb (c / 7) p) bs
 
 redone-by-cell : (b : List ℕ) (p n : ℕ) (bs : List ℕ) → let e = effect (rowOf b) in pageRedone p e n bs ≡ cond (eqb (getD b 3 0 / 7) p) (pageWith e n bs) bs
 redone-by-cell b p n bs = rw (add-zero (getD b 3 0)) (redone-by-kind (number 1 b 0) _ _ (getD b 3 0) _ _ p n bs)

@@ -62,6 +62,7 @@ pub fn before_undone(log: &[u8], k: usize, t: Counts, scopes: &[u16], row: Row) 
         Row::Undo(h, _, _, _) => before_highest(log, k, t, scopes, h),
         Row::Commit(_) => Lsn(0),
         Row::Abort(_) => Lsn(0),
+        Row::HandOverAll(_, _) => Lsn(0),
     }
 }
 
@@ -76,6 +77,7 @@ fn undone_by(row: Row) -> Lsn
         Row::Undo(_, _, n, _) => n,
         Row::Commit(_) => Lsn(0),
         Row::Abort(_) => Lsn(0),
+        Row::HandOverAll(_, _) => Lsn(0),
     }
 }
 

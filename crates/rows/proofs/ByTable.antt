@@ -11,7 +11,7 @@ use borrow.Author.Tests.{eqb-true, eqb-false, eq-eqb}
 use Rattle.book.specs.Limits.{kindLimit}
 use Rattle.book.specs.Numbers.{number}
 use Rattle.book.specs.Lists.{eqBytes}
-use Rattle.book.specs.Rows.{Row, begin, change, handOver, undo, commit, abort}
+use Rattle.book.specs.Rows.{Row, begin, change, handOver, undo, commit, abort, handOverAll}
 use Rattle.book.specs.RowBytes.{kindOf, mayBe, rowBytes, rowOf, isRowBytes}
 use Rattle.book.proofs.Lists.{and-l, and-r, and-i, clash, is-false}
 use Rattle.book.proofs.RowBytes.{by-table, table-bytes}
@@ -65,6 +65,7 @@ first-byte n (handOver g r c) x xs e = eqb-true 3 x (and-l (eqb 3 x) _ e)
 first-byte n (undo h c u a) x xs e = eqb-true 4 x (and-l (eqb 4 x) _ e)
 first-byte n (commit v) x xs e = eqb-true 5 x (and-l (eqb 5 x) _ e)
 first-byte n (abort v) x xs e = eqb-true 6 x (and-l (eqb 6 x) _ e)
+first-byte n (handOverAll g r) x xs e = eqb-true 7 x (and-l (eqb 7 x) _ e)
 
 some-kind : (r : Row) → kindOf r ≡ 0 → ⊥
 some-kind (begin v) e = omega arith
@@ -73,6 +74,7 @@ some-kind (handOver g r c) e = omega arith
 some-kind (undo h c u a) e = omega arith
 some-kind (commit v) e = omega arith
 some-kind (abort v) e = omega arith
+some-kind (handOverAll g r) e = omega arith
 
 pub not-blank : (n : ℕ) (b : List ℕ) → isRowBytes n b ≡ true → isBlank b ≡ false
 not-blank n [] t = refl

@@ -11,7 +11,7 @@ use Rattle.book.specs.Rows.{isVisit, isCell, isRowNumber, fits}
 use Rattle.book.proofs.Lists.{and-l, and-r}
 use Rattle.rows.specs.Meaning.{meant, coded, narrowed, effectOf, effectMeant}
 use Rattle.rows.specs.declared.Row.{Row}
-use Rattle.rows.specs.declared.Row.the-variants.{Begin, Change, HandOver, Undo, Commit, Abort}
+use Rattle.rows.specs.declared.Row.the-variants.{Begin, Change, HandOver, Undo, Commit, Abort, HandOverAll}
 
 pub meant-coded : (r : book.Row) → meant (coded r) ≡ r
 meant-coded (book.Row.begin v) = refl
@@ -20,6 +20,7 @@ meant-coded (book.Row.handOver g r c) = refl
 meant-coded (book.Row.undo h c n a) = refl
 meant-coded (book.Row.commit v) = refl
 meant-coded (book.Row.abort v) = refl
+meant-coded (book.Row.handOverAll g r) = refl
 
 pub coded-meant : (r : Row) → coded (meant r) ≡ r
 coded-meant (Begin v) = refl
@@ -28,6 +29,7 @@ coded-meant (HandOver g r c) = refl
 coded-meant (Undo h c n a) = refl
 coded-meant (Commit v) = refl
 coded-meant (Abort v) = refl
+coded-meant (HandOverAll g r) = refl
 
 pub effect-meant : (r : Row) → effectMeant (effectOf r) ≡ book.effect (meant r)
 effect-meant (Begin v) = refl
@@ -36,6 +38,7 @@ effect-meant (HandOver g r c) = refl
 effect-meant (Undo h c n a) = refl
 effect-meant (Commit v) = refl
 effect-meant (Abort v) = refl
+effect-meant (HandOverAll g r) = refl
 
 -- a visit in its range has one byte
 one-byte : (v : ℕ) → isVisit v ≡ true → v % 256 ≡ v
@@ -52,3 +55,4 @@ narrowed-fits (book.Row.undo h c n a) e =
     rw (one-byte h (and-l _ _ (and-l (isVisit h && isCell c) _ (and-l (isVisit h && isCell c && isRowNumber n) _ e))))
 narrowed-fits (book.Row.commit v) e = rw (one-byte v e)
 narrowed-fits (book.Row.abort v) e = rw (one-byte v e)
+narrowed-fits (book.Row.handOverAll g r) e = rw (one-byte g (and-l _ _ e), one-byte r (and-r (isVisit g) _ e))

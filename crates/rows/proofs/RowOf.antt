@@ -22,16 +22,18 @@ row-as b =
 pub of-kind : (b : List ℕ) (k : ℕ) → getD b 0 0 ≡ k → coded (rowAs k b) ≡ coded (rowOf b)
 of-kind b k e = rw (row-as b, e)
 
-rest : (k v r c u : ℕ) (a : ℤ) → (k ≡ 0 → ⊥) → (k ≡ 1 → ⊥) → (k ≡ 2 → ⊥) → (k ≡ 3 → ⊥) → (k ≡ 4 → ⊥) → (k ≡ 5 → ⊥)
-    → book.Row.abort v ≡ rowOfKind k v r c u a
-rest zero v r c u a h0 h1 h2 h3 h4 h5 = absurd (h0 refl)
-rest (suc zero) v r c u a h0 h1 h2 h3 h4 h5 = absurd (h1 refl)
-rest (suc (suc zero)) v r c u a h0 h1 h2 h3 h4 h5 = absurd (h2 refl)
-rest (suc (suc (suc zero))) v r c u a h0 h1 h2 h3 h4 h5 = absurd (h3 refl)
-rest (suc (suc (suc (suc zero)))) v r c u a h0 h1 h2 h3 h4 h5 = absurd (h4 refl)
-rest (suc (suc (suc (suc (suc zero))))) v r c u a h0 h1 h2 h3 h4 h5 = absurd (h5 refl)
-rest (suc (suc (suc (suc (suc (suc k)))))) v r c u a h0 h1 h2 h3 h4 h5 = refl
+rest : (k v r c u : ℕ) (a : ℤ) → (k ≡ 0 → ⊥) → (k ≡ 1 → ⊥) → (k ≡ 2 → ⊥) → (k ≡ 3 → ⊥) → (k ≡ 4 → ⊥) → (k ≡ 5 → ⊥) → (k ≡ 6 → ⊥)
+    → book.Row.handOverAll v r ≡ rowOfKind k v r c u a
+rest zero v r c u a h0 h1 h2 h3 h4 h5 h6 = absurd (h0 refl)
+rest (suc zero) v r c u a h0 h1 h2 h3 h4 h5 h6 = absurd (h1 refl)
+rest (suc (suc zero)) v r c u a h0 h1 h2 h3 h4 h5 h6 = absurd (h2 refl)
+rest (suc (suc (suc zero))) v r c u a h0 h1 h2 h3 h4 h5 h6 = absurd (h3 refl)
+rest (suc (suc (suc (suc zero)))) v r c u a h0 h1 h2 h3 h4 h5 h6 = absurd (h4 refl)
+rest (suc (suc (suc (suc (suc zero))))) v r c u a h0 h1 h2 h3 h4 h5 h6 = absurd (h5 refl)
+rest (suc (suc (suc (suc (suc (suc zero)))))) v r c u a h0 h1 h2 h3 h4 h5 h6 = absurd (h6 refl)
+rest (suc (suc (suc (suc (suc (suc (suc k))))))) v r c u a h0 h1 h2 h3 h4 h5 h6 = refl
 
 pub of-rest : (b : List ℕ) → let k = getD b 0 0 in
-    (k ≡ 0 → ⊥) → (k ≡ 1 → ⊥) → (k ≡ 2 → ⊥) → (k ≡ 3 → ⊥) → (k ≡ 4 → ⊥) → (k ≡ 5 → ⊥) → coded (book.Row.abort (getD b 1 0)) ≡ coded (rowOf b)
-of-rest b h0 h1 h2 h3 h4 h5 = ap coded (rest (getD b 0 0) _ _ _ _ _ h0 h1 h2 h3 h4 h5) ∙ of-kind b (getD b 0 0) refl
+    (k ≡ 0 → ⊥) → (k ≡ 1 → ⊥) → (k ≡ 2 → ⊥) → (k ≡ 3 → ⊥) → (k ≡ 4 → ⊥) → (k ≡ 5 → ⊥) → (k ≡ 6 → ⊥)
+    → coded (book.Row.handOverAll (getD b 1 0) (getD b 2 0)) ≡ coded (rowOf b)
+of-rest b h0 h1 h2 h3 h4 h5 h6 = ap coded (rest (getD b 0 0) _ _ _ _ _ h0 h1 h2 h3 h4 h5 h6) ∙ of-kind b (getD b 0 0) refl

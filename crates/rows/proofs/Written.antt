@@ -10,7 +10,7 @@ use Rattle.rows.specs.Meaning.{meant, narrowed}
 use Rattle.rows.specs.Table.{masked, fill}
 use Rattle.rows.specs.Writing.{fieldsOf, fieldBytes}
 use Rattle.rows.specs.declared.Row.{Row}
-use Rattle.rows.specs.declared.Row.the-variants.{Begin, Change, HandOver, Undo, Commit, Abort}
+use Rattle.rows.specs.declared.Row.the-variants.{Begin, Change, HandOver, Undo, Commit, Abort, HandOverAll}
 use Rattle.rows.proofs.Sixteen.{sixteen}
 
 pub kind-known : (r : Row) → fieldsOf r .kind ≤ kindLimit
@@ -20,6 +20,7 @@ kind-known (HandOver g r c) = omega arith
 kind-known (Undo h c n a) = omega arith
 kind-known (Commit v) = omega arith
 kind-known (Abort v) = omega arith
+kind-known (HandOverAll g r) = omega arith
 
 -- a fill of all 16 bytes leaves nothing of what was there
 abbrev all : ℕ → List ℕ → List ℕ
@@ -46,3 +47,4 @@ written (HandOver g r c) n b e = filled 3 (fieldBytes (fieldsOf (HandOver g r c)
 written (Undo h c u a) n b e = filled 4 (fieldBytes (fieldsOf (Undo h c u a)) n) b e
 written (Commit v) n b e = filled 5 (fieldBytes (fieldsOf (Commit v)) n) b e
 written (Abort v) n b e = filled 6 (fieldBytes (fieldsOf (Abort v)) n) b e
+written (HandOverAll g r) n b e = filled 7 (fieldBytes (fieldsOf (HandOverAll g r)) n) b e

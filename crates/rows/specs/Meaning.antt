@@ -3,7 +3,7 @@ use Prim.Native.Nat.{_%_}
 use lib.IntN.{negℤ}
 use Rattle.book.specs.Rows as book
 use Rattle.rows.specs.declared.Row.{Row}
-use Rattle.rows.specs.declared.Row.the-variants.{Begin, Change, HandOver, Undo, Commit, Abort}
+use Rattle.rows.specs.declared.Row.the-variants.{Begin, Change, HandOver, Undo, Commit, Abort, HandOverAll}
 use Rattle.rows.specs.declared.Effect.{Effect}
 use Rattle.rows.specs.declared.Effect.the-variants.{Nothing, Adds, Subtracts}
 
@@ -15,6 +15,7 @@ meant (HandOver g r c) = book.Row.handOver (g .0) (r .0) (c .0)
 meant (Undo h c n a) = book.Row.undo (h .0) (c .0) (n .0) a
 meant (Commit v) = book.Row.commit (v .0)
 meant (Abort v) = book.Row.abort (v .0)
+meant (HandOverAll g r) = book.Row.handOverAll (g .0) (r .0)
 
 -- the row of the code that means a row of the book
 abbrev pub coded : book.Row → Row
@@ -24,6 +25,7 @@ coded (book.Row.handOver g r c) = HandOver (record { 0 = g }) (record { 0 = r })
 coded (book.Row.undo h c n a) = Undo (record { 0 = h }) (record { 0 = c }) (record { 0 = n }) a
 coded (book.Row.commit v) = Commit (record { 0 = v })
 coded (book.Row.abort v) = Abort (record { 0 = v })
+coded (book.Row.handOverAll g r) = HandOverAll (record { 0 = g }) (record { 0 = r })
 
 -- the row with its visits cut to one byte each; a row that fits is itself
 abbrev pub narrowed : book.Row → book.Row
@@ -33,6 +35,7 @@ narrowed (book.Row.handOver g r c) = book.Row.handOver (g % 256) (r % 256) c
 narrowed (book.Row.undo h c n a) = book.Row.undo (h % 256) c n a
 narrowed (book.Row.commit v) = book.Row.commit (v % 256)
 narrowed (book.Row.abort v) = book.Row.abort (v % 256)
+narrowed (book.Row.handOverAll g r) = book.Row.handOverAll (g % 256) (r % 256)
 
 -- what a row does to the charts, in the code's terms
 abbrev pub effectOf : Row → Effect
@@ -42,6 +45,7 @@ effectOf (HandOver g r c) = Nothing
 effectOf (Undo h c n a) = Subtracts c a
 effectOf (Commit v) = Nothing
 effectOf (Abort v) = Nothing
+effectOf (HandOverAll g r) = Nothing
 
 -- the book's effect that an effect of the code means
 abbrev pub effectMeant : Effect → book.Effect

@@ -3,7 +3,7 @@ use Prim.Native.Nat.{ℕ, _/_, _%_}
 use mathlib.Core.List.{List, [], _∷_}
 use Rattle.book.specs.Numbers.{bitsOf}
 use Rattle.rows.specs.declared.Row.{Row}
-use Rattle.rows.specs.declared.Row.the-variants.{Begin, Change, HandOver, Undo, Commit, Abort}
+use Rattle.rows.specs.declared.Row.the-variants.{Begin, Change, HandOver, Undo, Commit, Abort, HandOverAll}
 use Rattle.rows.specs.declared.writer.Fields.{Fields}
 
 -- a row's fields, with zeros for those that its kind lacks
@@ -14,6 +14,7 @@ fieldsOf (HandOver g r c) = record { kind = 3; visit = g .0; receiver = r .0; ce
 fieldsOf (Undo h c n a) = record { kind = 4; visit = h .0; receiver = 0; cell = c .0; undone = n .0; change = bitsOf 16 a }
 fieldsOf (Commit v) = record { kind = 5; visit = v .0; receiver = 0; cell = 0; undone = 0; change = 0 }
 fieldsOf (Abort v) = record { kind = 6; visit = v .0; receiver = 0; cell = 0; undone = 0; change = 0 }
+fieldsOf (HandOverAll g r) = record { kind = 7; visit = g .0; receiver = r .0; cell = 0; undone = 0; change = 0 }
 
 -- all fields at their places, for row n
 abbrev pub fieldBytes : Fields → ℕ → List ℕ

@@ -14,5 +14,6 @@ pub fn effect_of(row: Row) -> Effect
         Row::Undo(_, c, _, x) => Effect::Subtracts(c, x),
         Row::Commit(_) => Effect::Nothing,
         Row::Abort(_) => Effect::Nothing,
+        Row::HandOverAll(_, _) => Effect::Nothing,
     }
 }

@@ -28,6 +28,8 @@ pub enum Row {
     Undo(Visit, Cell, Lsn, i16),
     Commit(Visit),
     Abort(Visit),
+    // giver and receiver: all changes that the giver holds pass to the receiver
+    HandOverAll(Visit, Visit),
 }
 
 // What 16 bytes are read as.

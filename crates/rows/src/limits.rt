@@ -23,7 +23,7 @@ pub const CELL_LIMIT: usize = PAGE_LIMIT * PLACES;
 pub const VISIT_LIMIT: usize = 255;
 
 // The greatest kind of a row; kind 0 is a blank row.
-pub const KIND_LIMIT: usize = 6;
+pub const KIND_LIMIT: usize = 7;
 
 // Active visits, and entries of the scope table.
 pub const ACTIVE_LIMIT: usize = 16;

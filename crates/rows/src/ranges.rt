@@ -58,5 +58,6 @@ pub fn in_range(row: Row) -> bool
         }
         Row::Commit(v) => is_visit(v),
         Row::Abort(v) => is_visit(v),
+        Row::HandOverAll(g, r) => { if is_visit(g) { is_visit(r) } else { false } }
     }
 }

@@ -60,7 +60,8 @@ pub fn row_in(b: &[u8]) -> Row
         3 => Row::HandOver(visit, Visit(wide(b[2])), cell),
         4 => Row::Undo(visit, cell, Lsn(word(b[6], b[7])), signed(word(b[8], b[9]))),
         5 => Row::Commit(visit),
-        _ => Row::Abort(visit),
+        6 => Row::Abort(visit),
+        _ => Row::HandOverAll(visit, Visit(wide(b[2]))),
     }
 }
 

@@ -21,6 +21,7 @@ const MAY_BE: [[u8; ROW_LENGTH]; KIND_LIMIT + 1] = [
     [1, 1, 0, 1, 1, 1, 1, 1, 1, 1, 0, 0, 0, 0, 0, 0],
     [1, 1, 0, 0, 1, 1, 0, 0, 0, 0, 0, 0, 0, 0, 0, 0],
     [1, 1, 0, 0, 1, 1, 0, 0, 0, 0, 0, 0, 0, 0, 0, 0],
+    [1, 1, 1, 0, 1, 1, 0, 0, 0, 0, 0, 0, 0, 0, 0, 0],
 ];
 
 // The table's line of a kind. Each arm is a constant to the compiler; indexed by a variable, the whole table would be stored to the stack first.
@@ -35,6 +36,7 @@ fn line_of(kind: usize) -> [u8; ROW_LENGTH]
         3 => MAY_BE[3],
         4 => MAY_BE[4],
         5 => MAY_BE[5],
+        6 => MAY_BE[6],
         _ => MAY_BE[KIND_LIMIT],
     }
 }

@@ -76,6 +76,14 @@ fn parts_of(row: Row) -> Fields
             undone: 0,
             change: 0,
         },
+        Row::HandOverAll(g, r) => Fields {
+            kind: 7,
+            visit: g.0,
+            receiver: r.0,
+            cell: 0,
+            undone: 0,
+            change: 0,
+        },
     }
 }
 

@@ -79,20 +79,25 @@ module _ (k v r c x : ℕ) (below : x < 65536) where
       go : (eqb 0 v && (eqb 0 r && (eqb c c && (eqb 0 (bitsOf 16 change % 256) && (eqb 0 (bitsOf 16 change / 256 % 256) && true))))) ≡ eqb (x + r + v) 0
       go = rw (bits-signed 16 x below, zero-bytes x below, same c, both-zero r x, both-zero v (x + r))
 
+  pub hands-over-all : k ≡ 9 → eqb (x + c) 0 ≡ isCall k v r c change
+  unfolding callBytes
+  hands-over-all e = rw (e, bits-signed 16 x below, same v, same r, zero-bytes x below, both-zero c x)
+
 -- any other code
-pub no-code : (k v r c : ℕ) (a : ℤ) → (k ≡ 1 → ⊥) → (k ≡ 2 → ⊥) → (k ≡ 3 → ⊥) → (k ≡ 4 → ⊥) → (k ≡ 5 → ⊥) → (k ≡ 6 → ⊥) → (k ≡ 7 → ⊥) → (k ≡ 8 → ⊥)
+pub no-code : (k v r c : ℕ) (a : ℤ) → (k ≡ 1 → ⊥) → (k ≡ 2 → ⊥) → (k ≡ 3 → ⊥) → (k ≡ 4 → ⊥) → (k ≡ 5 → ⊥) → (k ≡ 6 → ⊥) → (k ≡ 7 → ⊥) → (k ≡ 8 → ⊥) → (k ≡ 9 → ⊥)
     → false ≡ isCall k v r c a
 unfolding callBytes
-no-code zero v r c a h1 h2 h3 h4 h5 h6 h7 h8 = refl
-no-code (suc zero) v r c a h1 h2 h3 h4 h5 h6 h7 h8 = absurd (h1 refl)
-no-code (suc (suc zero)) v r c a h1 h2 h3 h4 h5 h6 h7 h8 = absurd (h2 refl)
-no-code (suc (suc (suc zero))) v r c a h1 h2 h3 h4 h5 h6 h7 h8 = absurd (h3 refl)
-no-code (suc (suc (suc (suc zero)))) v r c a h1 h2 h3 h4 h5 h6 h7 h8 = absurd (h4 refl)
-no-code (suc (suc (suc (suc (suc zero))))) v r c a h1 h2 h3 h4 h5 h6 h7 h8 = absurd (h5 refl)
-no-code (suc (suc (suc (suc (suc (suc zero)))))) v r c a h1 h2 h3 h4 h5 h6 h7 h8 = absurd (h6 refl)
-no-code (suc (suc (suc (suc (suc (suc (suc zero))))))) v r c a h1 h2 h3 h4 h5 h6 h7 h8 = absurd (h7 refl)
-no-code (suc (suc (suc (suc (suc (suc (suc (suc k)))))))) v r c a h1 h2 h3 h4 h5 h6 h7 h8 =
-    rw (ne-eqb 8 (suc (suc (suc (suc (suc (suc (suc (suc k)))))))) (λ e. h8 (sym e)))
+no-code zero v r c a h1 h2 h3 h4 h5 h6 h7 h8 h9 = refl
+no-code (suc zero) v r c a h1 h2 h3 h4 h5 h6 h7 h8 h9 = absurd (h1 refl)
+no-code (suc (suc zero)) v r c a h1 h2 h3 h4 h5 h6 h7 h8 h9 = absurd (h2 refl)
+no-code (suc (suc (suc zero))) v r c a h1 h2 h3 h4 h5 h6 h7 h8 h9 = absurd (h3 refl)
+no-code (suc (suc (suc (suc zero)))) v r c a h1 h2 h3 h4 h5 h6 h7 h8 h9 = absurd (h4 refl)
+no-code (suc (suc (suc (suc (suc zero))))) v r c a h1 h2 h3 h4 h5 h6 h7 h8 h9 = absurd (h5 refl)
+no-code (suc (suc (suc (suc (suc (suc zero)))))) v r c a h1 h2 h3 h4 h5 h6 h7 h8 h9 = absurd (h6 refl)
+no-code (suc (suc (suc (suc (suc (suc (suc zero))))))) v r c a h1 h2 h3 h4 h5 h6 h7 h8 h9 = absurd (h7 refl)
+no-code (suc (suc (suc (suc (suc (suc (suc (suc zero)))))))) v r c a h1 h2 h3 h4 h5 h6 h7 h8 h9 = absurd (h8 refl)
+no-code (suc (suc (suc (suc (suc (suc (suc (suc (suc k))))))))) v r c a h1 h2 h3 h4 h5 h6 h7 h8 h9 =
+    rw (ne-eqb 9 (suc (suc (suc (suc (suc (suc (suc (suc (suc k))))))))) (λ e. h9 (sym e)))
 
 -- ── At a place of the file ────────────────────────────────────────────────────────────────────────────────────────────
 
@@ -140,18 +145,19 @@ unfolding callAt
 of-code bs at k e = rw e
 
 rest : (k v r c : ℕ) (a : ℤ) → (k ≡ 0 → ⊥) → (k ≡ 1 → ⊥) → (k ≡ 2 → ⊥) → (k ≡ 3 → ⊥) → (k ≡ 4 → ⊥) → (k ≡ 5 → ⊥) → (k ≡ 6 → ⊥) → (k ≡ 7 → ⊥)
-    → Call.read c ≡ callOfCode k v r c a
-rest zero v r c a h0 h1 h2 h3 h4 h5 h6 h7 = absurd (h0 refl)
-rest (suc zero) v r c a h0 h1 h2 h3 h4 h5 h6 h7 = absurd (h1 refl)
-rest (suc (suc zero)) v r c a h0 h1 h2 h3 h4 h5 h6 h7 = absurd (h2 refl)
-rest (suc (suc (suc zero))) v r c a h0 h1 h2 h3 h4 h5 h6 h7 = absurd (h3 refl)
-rest (suc (suc (suc (suc zero)))) v r c a h0 h1 h2 h3 h4 h5 h6 h7 = absurd (h4 refl)
-rest (suc (suc (suc (suc (suc zero))))) v r c a h0 h1 h2 h3 h4 h5 h6 h7 = absurd (h5 refl)
-rest (suc (suc (suc (suc (suc (suc zero)))))) v r c a h0 h1 h2 h3 h4 h5 h6 h7 = absurd (h6 refl)
-rest (suc (suc (suc (suc (suc (suc (suc zero))))))) v r c a h0 h1 h2 h3 h4 h5 h6 h7 = absurd (h7 refl)
-rest (suc (suc (suc (suc (suc (suc (suc (suc k)))))))) v r c a h0 h1 h2 h3 h4 h5 h6 h7 = refl
+    → (k ≡ 8 → ⊥) → Call.handOverAll v r ≡ callOfCode k v r c a
+rest zero v r c a h0 h1 h2 h3 h4 h5 h6 h7 h8 = absurd (h0 refl)
+rest (suc zero) v r c a h0 h1 h2 h3 h4 h5 h6 h7 h8 = absurd (h1 refl)
+rest (suc (suc zero)) v r c a h0 h1 h2 h3 h4 h5 h6 h7 h8 = absurd (h2 refl)
+rest (suc (suc (suc zero))) v r c a h0 h1 h2 h3 h4 h5 h6 h7 h8 = absurd (h3 refl)
+rest (suc (suc (suc (suc zero)))) v r c a h0 h1 h2 h3 h4 h5 h6 h7 h8 = absurd (h4 refl)
+rest (suc (suc (suc (suc (suc zero))))) v r c a h0 h1 h2 h3 h4 h5 h6 h7 h8 = absurd (h5 refl)
+rest (suc (suc (suc (suc (suc (suc zero)))))) v r c a h0 h1 h2 h3 h4 h5 h6 h7 h8 = absurd (h6 refl)
+rest (suc (suc (suc (suc (suc (suc (suc zero))))))) v r c a h0 h1 h2 h3 h4 h5 h6 h7 h8 = absurd (h7 refl)
+rest (suc (suc (suc (suc (suc (suc (suc (suc zero)))))))) v r c a h0 h1 h2 h3 h4 h5 h6 h7 h8 = absurd (h8 refl)
+rest (suc (suc (suc (suc (suc (suc (suc (suc (suc k))))))))) v r c a h0 h1 h2 h3 h4 h5 h6 h7 h8 = refl
 
 pub of-rest : (bs : List ℕ) (at : ℕ) → let k = getD bs at 0 in
     (k ≡ 0 → ⊥) → (k ≡ 1 → ⊥) → (k ≡ 2 → ⊥) → (k ≡ 3 → ⊥) → (k ≡ 4 → ⊥) → (k ≡ 5 → ⊥) → (k ≡ 6 → ⊥) → (k ≡ 7 → ⊥)
-    → Call.read (getD bs (at + 3) 0) ≡ callAt bs at
-of-rest bs at h0 h1 h2 h3 h4 h5 h6 h7 = rest (getD bs at 0) _ _ _ _ h0 h1 h2 h3 h4 h5 h6 h7 ∙ of-code bs at (getD bs at 0) refl
+    → (k ≡ 8 → ⊥) → Call.handOverAll (getD bs (at + 1) 0) (getD bs (at + 2) 0) ≡ callAt bs at
+of-rest bs at h0 h1 h2 h3 h4 h5 h6 h7 h8 = rest (getD bs at 0) _ _ _ _ h0 h1 h2 h3 h4 h5 h6 h7 h8 ∙ of-code bs at (getD bs at 0) refl

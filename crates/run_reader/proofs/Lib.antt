@@ -1,3 +1,4 @@
 pub mod CallBytes
+pub mod Codes
 pub mod Bodies
 pub mod RunFiles

@@ -35,7 +35,7 @@ callLength = 6
 abbrev pub callFields : ℕ → ℕ → ℕ → ℕ → ℤ → List ℕ
 callFields code v r c a = code ∷ v ∷ r ∷ c ∷ le 2 (bitsOf 16 a)
 
--- 01: the codes; unused bytes are zero
+-- 01, and 02, L2 (code 9): the codes; unused bytes are zero
 unfoldable pub callBytes : Call → List ℕ
 callBytes Call.begin = callFields 1 0 0 0 (pos 0)
 callBytes (Call.change v c a) = callFields 2 v 0 c a
@@ -45,6 +45,7 @@ callBytes (Call.abort v) = callFields 5 v 0 0 (pos 0)
 callBytes (Call.flush p) = callFields 6 0 0 p (pos 0)
 callBytes Call.force = callFields 7 0 0 0 (pos 0)
 callBytes (Call.read c) = callFields 8 0 0 c (pos 0)
+callBytes (Call.handOverAll g r) = callFields 9 g r 0 (pos 0)
 
 -- the call of a code with these callFields; of no such code any call will do, since `isCallAt` compares the bytes
 abbrev pub callOfCode : ℕ → ℕ → ℕ → ℕ → ℤ → Call
@@ -56,7 +57,8 @@ callOfCode (suc (suc (suc (suc zero)))) v r c a = Call.commit v
 callOfCode (suc (suc (suc (suc (suc zero))))) v r c a = Call.abort v
 callOfCode (suc (suc (suc (suc (suc (suc zero)))))) v r c a = Call.flush c
 callOfCode (suc (suc (suc (suc (suc (suc (suc zero))))))) v r c a = Call.force
-callOfCode (suc (suc (suc (suc (suc (suc (suc (suc n)))))))) v r c a = Call.read c
+callOfCode (suc (suc (suc (suc (suc (suc (suc (suc zero)))))))) v r c a = Call.read c
+callOfCode (suc (suc (suc (suc (suc (suc (suc (suc (suc n))))))))) v r c a = Call.handOverAll v r
 
 -- the call that the 6 bytes from `at` on would be
 unfoldable pub callAt : List ℕ → ℕ → Call

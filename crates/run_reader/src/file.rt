@@ -68,7 +68,8 @@ pub fn call_at(file: &[u8], at: usize) -> Request
         5 => Request::Abort(visit),
         6 => Request::Flush(file[at + 3]),
         7 => Request::Force,
-        _ => Request::Read(cell),
+        8 => Request::Read(cell),
+        _ => Request::HandOverAll(visit, Visit(wide(file[at + 2]))),
     }
 }
 
@@ -89,6 +90,7 @@ fn is_call(code: u8, visit: u8, receiver: u8, cell: u8, change: u16) -> bool
         6 => n + r + v == 0,
         7 => n + c + r + v == 0,
         8 => n + r + v == 0,
+        9 => n + c == 0,
         _ => false,
     }
 }

@@ -65,7 +65,8 @@ typed-code (suc (suc (suc (suc zero)))) v r c a h = tt
 typed-code (suc (suc (suc (suc (suc zero))))) v r c a h = tt
 typed-code (suc (suc (suc (suc (suc (suc zero)))))) v r c a h = tt
 typed-code (suc (suc (suc (suc (suc (suc (suc zero))))))) v r c a h = tt
-typed-code (suc (suc (suc (suc (suc (suc (suc (suc n)))))))) v r c a h = tt
+typed-code (suc (suc (suc (suc (suc (suc (suc (suc zero)))))))) v r c a h = tt
+typed-code (suc (suc (suc (suc (suc (suc (suc (suc (suc n))))))))) v r c a h = tt
 
 -- a run file's change is a signed 16-bit number
 typed-call : (bs : List ℕ) (at : ℕ) → Typed (callAt bs at)

@@ -48,7 +48,7 @@ pub record CallAnswers (k : Call) (given : World) (x : Answered) : Type 0 where
   -- or else the power failed, which leaves what 01 says under Power
   pub failed : x .answer .number ≡ 5 → works (given .state) ≡ true → x ≡ failedAfter (x .writes .rows) (cleared (x .world .log) (given .charts))
 
--- format, open and the eight calls of an open store, whatever functions meet the contracts
+-- format, open and the calls of an open store, whatever functions meet the contracts
 pub record Demand1 : Type 0 where
   pub formats : (values : List ℤ) (given : World) (x : Answered) → FormatPost values given x → FormatAnswers given x
   pub opens : (f : Fuse) (given : World) (x : Answered) → OpenPost f given x → OpenAnswers given x

@@ -164,11 +164,12 @@ abbrev fills : ℕ → List Call
 fills n = twoVisits ++ rounds (λ i. Call.handOver 1 2 0) (λ i. Call.handOver 2 1 0) n 0
 
 -- no row is free beyond the reserve
-no-room : (n : ℕ) → n + 0 ≡ 2044 → Occurs 1 8 × Occurs 2 8 × Occurs 3 8
+no-room : (n : ℕ) → n + 0 ≡ 2044 → Occurs 1 8 × Occurs 2 8 × Occurs 3 8 × Occurs 9 8
 no-room n e = (
   found (fills n) Call.begin 8 full (begins _ full),
   found (fills n) (Call.change 1 0 (pos 1)) 8 full (changes _ full),
   found (fills n) (Call.handOver 1 2 0) 8 full (handsOver _ full),
+  found (fills n) (Call.handOverAll 1 2) 8 full (handsOverAll _ full),
 )
   where
     full : At (handed 4093 1) (afterCalls (fills n))
@@ -183,6 +184,9 @@ no-room n e = (
 
     handsOver : (b : Book) → At (handed 4093 1) b → call zeros b true (Call.handOver 1 2 0) .answer .number ≡ 8
     handsOver b a = unfold call refusal reserve in (rw (a .is, a .comes))
+
+    handsOverAll : (b : Book) → At (handed 4093 1) b → call zeros b true (Call.handOverAll 1 2) .answer .number ≡ 8
+    handsOverAll b a = unfold call refusal reserve in (rw (a .is, a .comes))
 
 -- ── Every number ──────────────────────────────────────────────────────────────────────────────────────────────────────
 
@@ -276,6 +280,13 @@ of-read =
     let k = Call.read 0 in
     computed [] k 0 (omega arith) refl and wrong-length k and closed k and computed [] (Call.read 224) 10 (omega arith) refl and end
 
+of-handOverAll : Each (Occurs 9) (0 ∷ 1 ∷ 5 ∷ 9 ∷ 12 ∷ 13 ∷ 8 ∷ [])
+unfolding after reserve scopesInUse force add takeBack refusal adds through value accepted call reopened reopen opening
+of-handOverAll =
+    let k = Call.handOverAll 1 2 in
+    computed two k 0 (omega arith) refl and wrong-length k and closed k and computed [] k 9 (omega arith) refl and
+    computed two (Call.handOverAll 1 1) 12 (omega arith) refl and computed two (Call.handOverAll 2 1) 13 (omega arith) refl and no-room 2044 refl .3 and end
+
 -- numbers with an example, and a list of no others
 by-examples : {P : ℕ → Type 0} {ns : List ℕ} → Each P ns → (ms : List ℕ) → within ms ns ≡ true → (n : ℕ) → member n ms ≡ true → P n
 by-examples {P} {ns} ps ms h n e = shown ps n (member-within ms ns h n e)
@@ -290,3 +301,4 @@ numbers-occur (Call.abort v) = by-examples of-abort (numbers (Call.abort v)) ref
 numbers-occur Call.force = by-examples of-force (numbers Call.force) refl
 numbers-occur (Call.flush p) = by-examples of-flush (numbers (Call.flush p)) refl
 numbers-occur (Call.read c) = by-examples of-read (numbers (Call.read c)) refl
+numbers-occur (Call.handOverAll g r) = by-examples of-handOverAll (numbers (Call.handOverAll g r)) refl

@@ -9,7 +9,7 @@ use lib.Dec.{eqb, leb, ltb}
 use Rattle.book.specs.Lists.{member}
 use Rattle.book.specs.Limits.{visitLimit, activeLimit, pageLimit}
 use Rattle.book.specs.Rows.{isCell}
-use Rattle.book.specs.Ledger.{only}
+use Rattle.book.specs.Ledger.{only, every}
 use Rattle.book.specs.Rules.{isActive, scopeFits, room, holdsAny}
 use Rattle.book.specs.Calls.{Call}
 use Rattle.book.specs.Power.{Book, ledgerOf}
@@ -48,6 +48,7 @@ without-five (Call.abort v) = refl
 without-five Call.force = refl
 without-five (Call.flush p) = refl
 without-five (Call.read c) = refl
+without-five (Call.handOverAll g r) = refl
 
 pub own-not-five : (k : Call) (n : ℕ) → Own k n → n ≢ 5
 own-not-five k n o e = clash _ (ap (λ (m : ℕ). member m (0 ∷ ownNumbers k)) (sym e) ∙ o .is) (without-five k)
@@ -69,3 +70,6 @@ refusal-own b (Call.abort v) = check (not (isActive (ledgerOf b) v)) (own refl) 
 refusal-own b Call.force = own refl
 refusal-own b (Call.flush p) = check (not (ltb p pageLimit)) (own refl) (own refl)
 refusal-own b (Call.read c) = check (not (isCell c)) (own refl) (own refl)
+refusal-own b (Call.handOverAll g r) =
+    check (not (isActive (ledgerOf b) g)) (own refl) (check (not (isActive (ledgerOf b) r)) (own refl) (check (eqb g r) (own refl)
+    (check (not (holdsAny (ledgerOf b) g every)) (own refl) (check (not (room (ledgerOf b) 1)) (own refl) (own refl)))))

@@ -144,3 +144,4 @@ charts-call cells b k charts s C = go k (call cells b true k) (grows-call cells 
     go Call.force o g d = grown o g
     go (Call.flush p) o g d = flush p o g d
     go (Call.read c) o g d = grown o g
+    go (Call.handOverAll u r) o g d = grown o g

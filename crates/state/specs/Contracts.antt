@@ -122,7 +122,7 @@ outcomeIn cells b k charts o = record {
 unfoldable pub byBook : (ℕ → ℤ) → Book → Call → World → Answered
 byBook cells b k w = outcomeIn cells b k (w .charts) (call cells b true k)
 
--- 01, "Refusals by place": the numbers of the call's own row
+-- 01, "Refusals by place", and 02, L2: the numbers of the call's own row
 abbrev pub ownNumbers : Call → List ℕ
 ownNumbers Call.begin = 6 ∷ 7 ∷ 8 ∷ []
 ownNumbers (Call.change v c a) = 9 ∷ 10 ∷ 11 ∷ 8 ∷ []
@@ -132,6 +132,7 @@ ownNumbers (Call.abort v) = 9 ∷ []
 ownNumbers Call.force = []
 ownNumbers (Call.flush p) = 14 ∷ []
 ownNumbers (Call.read c) = 10 ∷ []
+ownNumbers (Call.handOverAll g r) = 9 ∷ 12 ∷ 13 ∷ 8 ∷ []
 
 -- the numbers that a call may answer with, whatever it is handed: done, 1 and 5 as every call of an open store, and those of its own row
 abbrev pub numbers : Call → List ℕ

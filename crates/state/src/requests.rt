@@ -13,6 +13,7 @@ pub enum Request {
     Force,
     Flush(u8),
     Read(Cell),
+    HandOverAll(Visit, Visit), // giver, receiver
 }
 
 // The amount of a change is a signed 16-bit number, as its type says: for proofs, which learn it by looking into the request.
@@ -28,5 +29,6 @@ pub fn is_typed(request: Request)
         Request::Force => {}
         Request::Flush(_) => {}
         Request::Read(_) => {}
+        Request::HandOverAll(_, _) => {}
     }
 }

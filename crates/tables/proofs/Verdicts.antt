@@ -5,7 +5,7 @@ use mathlib.Core.Bool.{Bool, true, false, cond, _&&_}
 use mathlib.Core.List.{List, []}
 use native.Mathlib.Omega.{arith}
 use borrow.Author.Tests.{ltb-true, eqb-true}
-use Rattle.book.specs.Rows.{Row, begin, change, handOver, undo, commit, abort}
+use Rattle.book.specs.Rows.{Row, begin, change, handOver, undo, commit, abort, handOverAll}
 use Rattle.book.specs.Scopes.{Scope}
 use Rattle.tables_model.specs.declared.Counts.{Counts}
 use Rattle.tables_model.specs.declared.Whom.{Whom}
@@ -60,6 +60,7 @@ takes x rows named (handOver g r c) l w = tt
 takes x rows named (undo h c n a) l w = tt
 takes x rows named (commit v) l w = tt
 takes x rows named (abort v) l w = tt
+takes x rows named (handOverAll g r) l w = tt
 
 -- the tables have room for what an allowed row adds to them
 pub allowed-takes : (x : Index) (rows : ℕ) (named r : Row) → judgeBy x rows named r ≡ Allowed → Takes x r

@@ -148,6 +148,7 @@ fn is_change(row: Row, c: Cell, a: i16) -> bool
         Row::Undo(_, _, _, _) => false,
         Row::Commit(_) => false,
         Row::Abort(_) => false,
+        Row::HandOverAll(_, _) => false,
     }
 }
 
@@ -197,6 +198,7 @@ pub fn is_lawful(t: Counts, visits: &[u16], scopes: &[u16], row: Row, named: Row
         Row::Undo(h, c, n, a) => may_undo(t, scopes, named, h, c, n, a),
         Row::Commit(v) => may_act(t, visits, v),
         Row::Abort(v) => may_abort(t, visits, scopes, v),
+        Row::HandOverAll(g, r) => may_hand_over(t, visits, scopes, g, r, CellSet::Every),
     }
 }
 
@@ -234,6 +236,7 @@ pub fn is_within_limits(t: Counts, scopes: &[u16], rows: usize, row: Row) -> boo
         Row::Undo(_, _, _, _) => true,
         Row::Commit(_) => true,
         Row::Abort(_) => true,
+        Row::HandOverAll(_, _) => has_room(t, scopes, rows, 1),
     }
 }
 

@@ -85,5 +85,9 @@ pub fn step(
         }
         Row::Commit(v) => after_end(t, visits, scopes, v),
         Row::Abort(v) => after_end(t, visits, scopes, v),
+        Row::HandOverAll(g, r) => {
+            hand_over(scopes, t.used, g, r, CellSet::Every);
+            t
+        }
     }
 }

@@ -13,7 +13,7 @@ use Rattle.book.specs.Rows.{change}
 use Rattle.book.specs.Ledger.{Change, Ledger, continues, newChange, startsScope, after}
 use Rattle.book.specs.Rules.{isActive, startsInUse}
 use Rattle.book.specs.Scopes.{Scope, unused, entryOf, scopesOf}
-use Rattle.book.proofs.Lists.{clash, and-i, keep-in, any-none}
+use Rattle.book.proofs.Lists.{clash, and-i, keep-in, any-none, any-in, any-some}
 use Rattle.book.proofs.Invariant.{Inv}
 use Rattle.book.proofs.Scoped.{Scoped, NewScope, new-scope, continued}
 use Rattle.book.proofs.SameScope.{continues-if}
@@ -26,7 +26,7 @@ use Rattle.tables_model.specs.Meaning.{tablesOf, scopeTable}
 use Rattle.tables_model.specs.Lookup.{indexOf}
 use Rattle.tables_model.proofs.Reversed.{any-reverse, of-reverse, map-reverse}
 use Rattle.tables_model.proofs.Padded.{take-pad, getD-pad, getD-in, push-pad, set-pad, one-reverse, replaced}
-use Rattle.tables_model.proofs.Looking.{any-map, any-in, any-some, both-ways}
+use Rattle.tables_model.proofs.Looking.{any-map, both-ways}
 use Rattle.tables_model.proofs.ScopesAfter.{startsAt, scopes-started, scopes-grown, one-entry}
 
 -- ── What the search finds ─────────────────────────────────────────────────────────────────────────────────────────────

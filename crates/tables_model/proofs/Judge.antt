@@ -11,13 +11,13 @@ use lib.Dec.{eqb, leb, ltb}
 use borrow.Author.Tests.{eqb-true, eq-eqb, ne-eqb, le-leb}
 use Rattle.book.specs.Lists.{any, eqZ}
 use Rattle.book.specs.Limits.{rowLimit, activeLimit, scopeLimit}
-use Rattle.book.specs.Rows.{Row, begin, change, handOver, undo, commit, abort, undoneBy}
-use Rattle.book.specs.Ledger.{Change, Ledger, only, holds, ledger}
+use Rattle.book.specs.Rows.{Row, begin, change, handOver, undo, commit, abort, handOverAll, undoneBy}
+use Rattle.book.specs.Ledger.{Change, Ledger, only, every, holds, ledger}
 use Rattle.book.specs.Rules.{isActive, bearsUndo, openChanges, openHeld, just, room, startsInUse, scopeFits, holdsAny, isFirst, lawful, withinLimits, allowedLog}
 use Rattle.book.specs.Rules as book
 use Rattle.book.specs.Scopes.{unused, firstRow, entryOf, scopesOf}
 use Rattle.book.specs.Pages.{rowAt}
-use Rattle.book.proofs.Lists.{and-i, and-l, and-r, here, in-keep, keep-in, any-none}
+use Rattle.book.proofs.Lists.{and-i, and-l, and-r, here, in-keep, keep-in, any-none, any-in, any-some}
 use Rattle.book.proofs.InvariantKept.{inv-log, rows-length}
 use Rattle.book.proofs.Scoped.{Scoped, scoped-log}
 use Rattle.book.proofs.Counts.{scopes-count}
@@ -33,7 +33,7 @@ use Rattle.tables_model.specs.Meaning.{tablesOf, scopeTable}
 use Rattle.tables_model.specs.Lookup.{indexOf}
 use Rattle.tables_model.proofs.Reversed.{any-reverse}
 use Rattle.tables_model.proofs.Padded.{take-pad}
-use Rattle.tables_model.proofs.Looking.{any-map, any-in, any-some, both-ways}
+use Rattle.tables_model.proofs.Looking.{any-map, both-ways}
 use Rattle.tables_model.proofs.ActiveVisits.{is-listed, is-bearing}
 use Rattle.tables_model.proofs.Reserve.{reserve-by}
 use Rattle.tables_model.proofs.Growing.{grows-by}
@@ -112,6 +112,10 @@ module _ (rs : List Row) (al : allowedLog rs ≡ true) where
   unfolding lawfulBy lawful
   lawful-handOver named g r c = may-hand-over-by g r (only c)
 
+  lawful-handOverAll : (named : Row) (g r : ℕ) → lawfulBy (indexOf (ledger rs)) named (handOverAll g r) ≡ lawful (ledger rs) (handOverAll g r)
+  unfolding lawfulBy lawful
+  lawful-handOverAll named g r = may-hand-over-by g r every
+
   lawful-undo : (named : Row) (h c n : ℕ) (a : ℤ) → (1 ≤ n → n ≤ length rs → named ≡ rowAt rs n)
       → lawfulBy (indexOf (ledger rs)) named (undo h c n a) ≡ lawful (ledger rs) (undo h c n a)
   unfolding lawfulBy lawful
@@ -170,6 +174,7 @@ module _ (rs : List Row) (al : allowedLog rs ≡ true) where
   within-by (undo h c n a) e = refl
   within-by (commit v) e = refl
   within-by (abort v) e = refl
+  within-by (handOverAll g r) e = room-by 1
 
   -- the row that r names is looked up right, if it is one of the list
   module _ (r : Row) (named : Row) (agree : 1 ≤ undoneBy r → undoneBy r ≤ length rs → named ≡ rowAt rs (undoneBy r)) where
@@ -185,6 +190,7 @@ module _ (rs : List Row) (al : allowedLog rs ≡ true) where
         go (undo h c n a) f = lawful-undo named h c n a f
         go (commit v) f = lawful-commit named v
         go (abort v) f = lawful-abort named v
+        go (handOverAll g r) f = lawful-handOverAll named g r
 
     pub judge-by : judgeBy (indexOf (ledger rs)) (length rs) named r
         ≡ cond (lawful (ledger rs) r) (cond (withinLimits (ledger rs) r) Allowed OverLimit) Unlawful

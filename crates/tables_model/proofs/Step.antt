@@ -10,8 +10,8 @@ use lib.Dec.{eqb, ltb}
 use borrow.Author.Tests.{eqb-true, ltb-true}
 use Rattle.book.specs.Lists.{keep, padTo, without}
 use Rattle.book.specs.Limits.{activeLimit, scopeLimit}
-use Rattle.book.specs.Rows.{Row, begin, change, handOver, undo, commit, abort}
-use Rattle.book.specs.Ledger.{Ledger, only, handedOver, after, ledger}
+use Rattle.book.specs.Rows.{Row, begin, change, handOver, undo, commit, abort, handOverAll}
+use Rattle.book.specs.Ledger.{Ledger, only, every, handedOver, after, ledger}
 use Rattle.book.specs.Rules.{isActive, scopeFits, mayHandOver, lawful, withinLimits, allowed, allowedLog}
 use Rattle.book.specs.Scopes.{Scope, unused, scopesOf}
 use Rattle.book.proofs.Lists.{and-l, and-r, is-false}
@@ -87,6 +87,11 @@ module _ (l : Ledger) (i : Inv l) (S : Scoped (l .changes)) where
   unfolding stepBy allowed lawful after
   step-handOver n before g r c al = step-handed g r (only c) (search (and-l, and-r))
 
+  step-handOverAll : (n before g r : ℕ) → allowed l (handOverAll g r) ≡ true
+      → stepBy (indexOf l) n before (handOverAll g r) ≡ indexOf (after l (handOverAll g r))
+  unfolding stepBy allowed lawful after
+  step-handOverAll n before g r al = step-handed g r every (search (and-l, and-r))
+
   -- the scope table after a commit or an abort, by the scopes that are left
   scopes-ended : (v : ℕ) (ss : List Scope) → ss ≡ keep (λ s. not (eqb (s .holder) v)) (scopesOf l)
       → scopesEnded (length (scopesOf l)) v (scopeTable l) ≡ record { used = length ss; entries = padTo scopeLimit unused (reverse ss) }
@@ -138,6 +143,7 @@ module _ (rs : List Row) (al : allowedLog rs ≡ true) (look : ℕ → Row) (agr
   step-row (undo h c k a) e = step-undo (suc (ledger rs .rows)) h c k a e
   step-row (commit v) e = step-commit (ledger rs) (inv-log rs al) (scoped-log rs) (suc (ledger rs .rows)) 0 v
   step-row (abort v) e = step-abort (ledger rs) (inv-log rs al) (scoped-log rs) (suc (ledger rs .rows)) 0 v
+  step-row (handOverAll g r) e = step-handOverAll (ledger rs) (inv-log rs al) (scoped-log rs) (suc (ledger rs .rows)) 0 g r e
 
   pub step-by : (r : Row) → allowed (ledger rs) r ≡ true
       → stepBy (indexOf (ledger rs)) (suc (length rs)) (beforeUndone look (indexOf (ledger rs)) r) r ≡ indexOf (after (ledger rs) r)

@@ -9,8 +9,8 @@ use lib.Dec.{eqb, ltb}
 use borrow.Author.Tests.{eqb-true, ltb-true}
 use Rattle.book.specs.Lists.{keep, foldl}
 use Rattle.book.specs.Limits.{activeLimit, scopeLimit}
-use Rattle.book.specs.Rows.{Row, begin, change, handOver, undo, commit, abort}
-use Rattle.book.specs.Ledger.{Ledger, empty, newChange, startsScope, only, handedOver, after, ledger}
+use Rattle.book.specs.Rows.{Row, begin, change, handOver, undo, commit, abort, handOverAll}
+use Rattle.book.specs.Ledger.{Ledger, empty, newChange, startsScope, only, every, handedOver, after, ledger}
 use Rattle.book.specs.Rules.{isActive, scopesInUse, scopeFits, mayHandOver, lawful, withinLimits, allowed, allAllowed, allowedLog}
 use Rattle.book.specs.Scopes.{scopesOf}
 use Rattle.book.proofs.Lists.{and-l, and-r, any-none, length-keep, keep-all, length-without-le}
@@ -80,6 +80,7 @@ limited-after l (abort v) e i S L =
     let is = ap length (scopes-aborted l v) in
     let less = shorter (λ s. not (eqb (s .holder) v)) (scopesOf l) in
     let some = L .scopes in record { active = omega arith; scopes = omega arith }
+limited-after l (handOverAll g r) e i S L = limited-handed l g r every (search (and-l, and-r)) L
 
 limited-all : (l : Ledger) (rs : List Row) → allAllowed l rs ≡ true → Inv l → Scoped (l .changes) → Limited l → Limited (foldl after l rs)
 limited-all l [] e i S L = L

@@ -9,8 +9,8 @@ use lib.ListN.{length}
 use lib.Dec.{eqb, leb, ltb}
 use Rattle.book.specs.Lists.{eqZ}
 use Rattle.book.specs.Limits.{rowLimit, activeLimit, scopeLimit}
-use Rattle.book.specs.Rows.{Row, begin, change, handOver, undo, commit, abort}
-use Rattle.book.specs.Ledger.{only}
+use Rattle.book.specs.Rows.{Row, begin, change, handOver, undo, commit, abort, handOverAll}
+use Rattle.book.specs.Ledger.{only, every}
 use Rattle.book.specs.Scopes.{Scope}
 use Rattle.tables_model.specs.declared.Tables.{Tables}
 use Rattle.tables_model.specs.declared.Counts.{Counts}
@@ -60,6 +60,7 @@ isChange (handOver g r k) c a = false
 isChange (undo h k n z) c a = false
 isChange (commit v) c a = false
 isChange (abort v) c a = false
+isChange (handOverAll g r) c a = false
 
 -- the visit is active, and no undo row bears it
 abbrev pub mayAct : Tables → ℕ → Bool
@@ -84,6 +85,7 @@ lawfulBy x named (handOver g r c) = mayHandOverBy x g r (only c)
 lawfulBy x named (undo h c n a) = mayUndo x named h c n a
 lawfulBy x named (commit v) = mayAct (x .tables) v
 lawfulBy x named (abort v) = mayAbort x v
+lawfulBy x named (handOverAll g r) = mayHandOverBy x g r every
 
 abbrev pub roomToBegin : Index → ℕ → Bool
 roomToBegin x rows = ltb (x .tables .count) activeLimit && roomBy x rows 2
@@ -103,6 +105,7 @@ withinLimitsBy x rows (handOver g r c) = roomBy x rows 1
 withinLimitsBy x rows (undo h c n a) = true
 withinLimitsBy x rows (commit v) = true
 withinLimitsBy x rows (abort v) = true
+withinLimitsBy x rows (handOverAll g r) = roomBy x rows 1
 
 unfoldable pub judgeBy : Index → ℕ → Row → Row → Verdict
 judgeBy x rows named r =
@@ -138,6 +141,7 @@ stepBy x n before (handOver g r c) = afterHandOver x g r (only c)
 stepBy x n before (undo h c k a) = afterUndo x h before
 stepBy x n before (commit v) = afterEnd x v
 stepBy x n before (abort v) = afterEnd x v
+stepBy x n before (handOverAll g r) = afterHandOver x g r every
 
 -- ── What the functions ask ────────────────────────────────────────────────────────────────────────────────────────────
 
@@ -169,6 +173,7 @@ Takes x (handOver g r c) = Unit {0}
 Takes x (undo h c k a) = Unit {0}
 Takes x (commit v) = Unit {0}
 Takes x (abort v) = Unit {0}
+Takes x (handOverAll g r) = Unit {0}
 
 pub record Steps (t : Counts) (vs s : List ℕ) (r : Row) : Type 0 where
   pub ready : Ready t (length vs) (length s)

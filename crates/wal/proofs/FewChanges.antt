@@ -6,8 +6,8 @@ use mathlib.Core.Path.{refl, ap}
 use mathlib.Core.List.{List, [], _∷_}
 use lib.ListN.{length, length-map}
 use Rattle.book.specs.Lists.{keep, foldl}
-use Rattle.book.specs.Rows.{Row, begin, change, handOver, undo, commit, abort}
-use Rattle.book.specs.Ledger.{Change, Ledger, empty, only, pass, after, ledger}
+use Rattle.book.specs.Rows.{Row, begin, change, handOver, undo, commit, abort, handOverAll}
+use Rattle.book.specs.Ledger.{Change, Ledger, empty, only, every, pass, after, ledger}
 use Rattle.book.specs.Rules.{isOpenChange, openChanges, openHeld}
 use Rattle.book.proofs.Lists.{length-keep, keep-all}
 
@@ -22,6 +22,7 @@ one-more l (handOver g r c) = let k = length-map (l .changes) (pass g r (only c)
 one-more l (undo h c n a) = omega arith
 one-more l (commit v) = omega arith
 one-more l (abort v) = omega arith
+one-more l (handOverAll g r) = let k = length-map (l .changes) (pass g r every) in omega arith
 
 changes-few : (l : Ledger) (rs : List Row) → length (foldl after l rs .changes) ≤ length (l .changes) + length rs
 changes-few l [] = omega arith

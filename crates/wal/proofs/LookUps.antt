@@ -59,8 +59,9 @@ change-by-kind maker cell (suc (suc zero)) v r c u a = simp and-true (and-comm (
 change-by-kind maker cell (suc (suc (suc zero))) v r c u a = simp and-false
 change-by-kind maker cell (suc (suc (suc (suc zero)))) v r c u a = simp and-false
 change-by-kind maker cell (suc (suc (suc (suc (suc zero))))) v r c u a = simp and-false
-change-by-kind maker cell (suc (suc (suc (suc (suc (suc k)))))) v r c u a =
-    let n = suc (suc (suc (suc (suc (suc k))))) in let not-2 : eqb n 2 ≡ false = ne-eqb n 2 (λ e. omega arith) in simp (not-2, and-false)
+change-by-kind maker cell (suc (suc (suc (suc (suc (suc zero)))))) v r c u a = simp and-false
+change-by-kind maker cell (suc (suc (suc (suc (suc (suc (suc k))))))) v r c u a =
+    let n = suc (suc (suc (suc (suc (suc (suc k)))))) in let not-2 : eqb n 2 ≡ false = ne-eqb n 2 (λ e. omega arith) in simp (not-2, and-false)
 
 pub change-by-bytes : (b : List ℕ) (maker cell : ℕ)
     → isChangeBy maker cell (rowOf b) ≡ (eqb (getD b 3 0) cell && (eqb (number 1 b 1) maker && eqb (getD b 0 0) 2))

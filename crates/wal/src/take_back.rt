@@ -37,6 +37,7 @@ fn undo_row(holder: Visit, n: Lsn, row: Row) -> Row
         Row::Undo(_, _, _, _) => Row::Undo(holder, Cell(0), n, 0),
         Row::Commit(_) => Row::Undo(holder, Cell(0), n, 0),
         Row::Abort(_) => Row::Undo(holder, Cell(0), n, 0),
+        Row::HandOverAll(_, _) => Row::Undo(holder, Cell(0), n, 0),
     }
 }
 

@@ -50,6 +50,10 @@ stored n = chartBytes (pageAfter fives (take n (rows ++ closings)))
 abbrev undone : List Row
 undone = Row.begin 1 ∷ Row.change 1 0 (pos 9) ∷ Row.undo 1 0 2 (pos 9) ∷ []
 
+-- 1 changes two cells, hands all over to 2 and commits: both changes are open
+abbrev handedAll : List Row
+handedAll = Row.begin 1 ∷ Row.begin 2 ∷ Row.change 1 0 (pos 300) ∷ Row.change 1 7 (pos 70) ∷ Row.handOverAll 1 2 ∷ Row.commit 1 ∷ []
+
 abbrev allFives : List ℤ
 allFives = pos 5 ∷ pos 5 ∷ pos 5 ∷ []
 
@@ -62,13 +66,16 @@ record ReadyOpenings : Type 0 where
   -- 01: an undo row is not applied again to a page that bears it, and is applied to one that does not
   bears-undo : seen (openBytes none (logBytes undone) (chartBytes (pageAfter fives undone))) ≡ ready 1 (undone ++ (Row.abort 1 ∷ [])) allFives
   bears-change : seen (openBytes none (logBytes undone) (chartBytes (pageAfter fives (take 2 undone)))) ≡ ready 1 (undone ++ (Row.abort 1 ∷ [])) allFives
+  -- 02, L2: the hand-over of a whole visit
+  whole-visit : seen (openBytes none (logBytes handedAll) (chartBytes (pageAfter fives []))) ≡
+      ready 3 (handedAll ++ (Row.undo 2 7 4 (pos 70) ∷ Row.undo 2 0 3 (pos 300) ∷ Row.abort 2 ∷ [])) allFives
   -- cells at the bound pass
   outermost : seen (openBytes none (logBytes []) (chartBytes (pageAfter (λ c. cond (eqb c 7) (negsuc 199999999) (pos 200000000)) []))) ≡
       ready 0 [] (pos 200000000 ∷ negsuc 199999999 ∷ pos 200000000 ∷ [])
 
 ready-openings : ReadyOpenings
 unfolding computes
-ready-openings = record { blank-pages = refl; flushed-pages = refl; again = refl; bears-undo = refl; bears-change = refl; outermost = refl }
+ready-openings = record { blank-pages = refl; flushed-pages = refl; again = refl; bears-undo = refl; bears-change = refl; whole-visit = refl; outermost = refl }
 
 -- ── Refused by 3, with the first bad row ──────────────────────────────────────────────────────────────────────────────
 
@@ -82,9 +89,10 @@ record BadLogs : Type 0 where
   other-change : refusedRow 3 (logBytes (Row.begin 1 ∷ Row.change 1 0 (pos 9) ∷ Row.undo 1 0 2 (pos 8) ∷ Row.abort 1 ∷ []))
   -- row 4 has the number 5
   wrong-number : refusedRow 4 (set (logBytes rows) (16 * 3 + 4) 5)
-  -- row 2, a begin row, has a cell; there is no kind 7
+  -- row 2, a begin row, has a cell; row 5, which hands over every cell, has one; there is no kind 8
   unnamed-byte : refusedRow 2 (set (logBytes rows) (16 * 1 + 3) 1)
-  unknown-kind : refusedRow 7 (set (logBytes rows) (16 * 6) 7)
+  cell-of-kind-7 : refusedRow 5 (set (logBytes handedAll) (16 * 4 + 3) 7)
+  unknown-kind : refusedRow 7 (set (logBytes rows) (16 * 6) 8)
   -- a byte after the end, in its last row
   late-byte : refusedRow 4096 (set (logBytes rows) 65535 1)
   -- rows after the end are none
@@ -92,7 +100,16 @@ record BadLogs : Type 0 where
 
 bad-logs : BadLogs
 unfolding computes
-bad-logs = record { not-active = refl; other-change = refl; wrong-number = refl; unnamed-byte = refl; unknown-kind = refl; late-byte = refl; gap = refl }
+bad-logs = record {
+  not-active = refl;
+  other-change = refl;
+  wrong-number = refl;
+  unnamed-byte = refl;
+  cell-of-kind-7 = refl;
+  unknown-kind = refl;
+  late-byte = refl;
+  gap = refl;
+}
 
 -- ── Refused by 4, with the first bad page ─────────────────────────────────────────────────────────────────────────────
 

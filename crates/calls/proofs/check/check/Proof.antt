@@ -27,10 +27,15 @@ returns-7 c = rw (c .before .before .request5 .given .1) (c .check-flush .ensure
 returns-8 : tie.Need-returns-8
 returns-8 c = rw (c .before .before .request6 .given .1) (c .check-read .ensures _ _)
 
+returns-9 : tie.Need-returns-9
+returns-9 c = rw (c .before .before .request7 .given .1) (c .check-hand-over-all .ensures)
+
 pub check-spec : {M : Type 1} → statement M
 check-spec =
     tie.close
     (tie.spec
+    (λ c. search needs)
+    (λ c κs. search needs)
     (λ c. search needs)
     (λ c κs. search needs)
     (λ c. search needs)
@@ -54,4 +59,5 @@ check-spec =
     returns-5
     returns-6
     returns-7
-    returns-8)
+    returns-8
+    returns-9)

@@ -6,6 +6,7 @@ use borrow.Author.Tests.{not-true, not-false}
 use Rattle.book.specs.Calls.{Call}
 use Rattle.tables_model.specs.Layout.{entries}
 use Rattle.tables_model.specs.Visits.{tablesIn}
+use Rattle.calls_model.specs.Refusals.{refusalBy}
 use Rattle.calls.proofs.Performing.{ready, when-not-ready, when-ready}
 use borrow.Author.Needs.{needs}
 use Rattle.calls.proofs.check.check_hand_over.Statement.{statement}
@@ -29,6 +30,7 @@ refuse-hand-over-requires c κs =
     }
 
 returns-2 : tie.Need-returns-2
+unfolding refusalBy
 returns-2 c =
     let x = c .before .before .before .before .before .before .args in
     c .refuse-hand-over .ensures ∙

@@ -30,6 +30,9 @@ accept-flush-requires c κs = (rw (c .before .before .before .before .before .be
 accept-read-requires : tie.Need-accept-read-requires
 accept-read-requires c κs = rw (c .before .before .before .before .before .before .request6 .given .1) at (c .before .before .before .before .before .before .before .before .before .before .before .before .before .before .pre .0)
 
+accept-hand-over-all-requires : tie.Need-accept-hand-over-all-requires
+accept-hand-over-all-requires c κs = rw (c .before .before .before .before .before .before .request7 .given .1) at (c .before .before .before .before .before .before .before .before .before .before .before .before .before .before .pre .0)
+
 returns : tie.Need-returns
 returns c = rw (c .before .before .before .before .before .before .before .before .before .before .before .before .before .before .before .before .enum-told .given .1) (c .before .before .before .before .before .before .before .before .before .before .accept-begin .ensures _)
 
@@ -56,6 +59,9 @@ returns-7 c = rw (c .before .before .before .before .before .before .before .bef
 returns-8 : tie.Need-returns-8
 returns-8 c = rw (c .before .before .before .before .before .before .before .request6 .given .1) (c .accept-read .ensures .0 _)
 
+returns-9 : tie.Need-returns-9
+returns-9 c = rw (c .before .before .before .before .before .before .before .before .before .before .before .before .before .before .before .before .before .request7 .given .1) (c .before .before .before .before .before .before .before .before .before .before .accept-hand-over-all .ensures _)
+
 pub accept-spec : {M : Type 1} → statement M
 accept-spec =
     tie.close
@@ -76,6 +82,8 @@ accept-spec =
     accept-flush-requires
     (λ c. search needs)
     accept-read-requires
+    (λ c. search needs)
+    accept-hand-over-all-requires
     (λ c. search needs)
     (λ c. search needs)
     (λ c. search needs)
@@ -124,4 +132,10 @@ accept-spec =
     (λ c. search needs)
     (λ c. search needs)
     (λ c. search needs)
-    returns-8)
+    returns-8
+    (λ c. search needs)
+    (λ c. search needs)
+    (λ c. search needs)
+    (λ c. search needs)
+    (λ c. search needs)
+    returns-9)

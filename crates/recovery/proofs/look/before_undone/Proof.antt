@@ -17,9 +17,11 @@ before-undone-spec =
     (λ c κs. search needs)
     (λ c. search needs)
     (λ c. search needs)
+    (λ c. search needs)
     (λ c visits. search needs)
     (λ c visits. search needs)
     (λ c visits. search needs)
     returns-4
+    (λ c visits. search needs)
     (λ c visits. search needs)
     (λ c visits. search needs))

@@ -96,6 +96,18 @@ returns-11 : tie.Need-returns-11
 unfolding fits
 returns-11 c = rw (c .before .before .row6 .given .1) (c .is-visit7 .ensures)
 
+returns-12 : tie.Need-returns-12
+unfolding fits
+returns-12 c =
+    let r = c .before .before .before .before .row7 .given in
+    rw (r .1, ← (c .before .before .is-visit8 .ensures), c .before .if6 .taken) (c .is-visit9 .ensures)
+
+returns-13 : tie.Need-returns-13
+unfolding fits
+returns-13 c =
+    let r = c .before .before .before .row7 .given in
+    rw (r .1, ← (c .before .is-visit8 .ensures), c .if6 .left)
+
 pub in-range-spec : {M : Type 1} → statement M
 in-range-spec =
     tie.close
@@ -117,6 +129,9 @@ in-range-spec =
     (λ c κs. search needs)
     (λ c. search needs)
     (λ c κs. search needs)
+    (λ c. search needs)
+    (λ c κs. search needs)
+    (λ c κs. search needs)
     returns
     returns-2
     returns-3
@@ -127,4 +142,6 @@ in-range-spec =
     returns-8
     returns-9
     returns-10
-    returns-11)
+    returns-11
+    returns-12
+    returns-13)

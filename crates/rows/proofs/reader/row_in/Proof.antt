@@ -56,9 +56,15 @@ returns-6 c =
 returns-7 : tie.Need-returns-7
 returns-7 c =
     let w = c .before .before .before in
-    let r = c .match .rest in
-    rw (w .wide .ensures)
-    (of-rest (w .before .before .before .args .b .now) (r .0 .0 .0 .0 .0 .1) (r .0 .0 .0 .0 .1) (r .0 .0 .0 .1) (r .0 .0 .1) (r .0 .1) (r .1))
+    rw (w .wide .ensures) (of-kind (w .before .before .before .args .b .now) 6 (c .match .keys7))
+
+returns-8 : tie.Need-returns-8
+returns-8 c =
+    let m = c .before .before in
+    let w = m .before .before .before in
+    let r = m .match .rest in
+    rw (w .wide .ensures, c .wide3 .ensures)
+    (of-rest (w .before .before .before .args .b .now) (r .0 .0 .0 .0 .0 .0 .1) (r .0 .0 .0 .0 .0 .1) (r .0 .0 .0 .0 .1) (r .0 .0 .0 .1) (r .0 .0 .1) (r .0 .1) (r .1))
 
 pub row-in-spec : {M : Type 1} → statement M
 row-in-spec =
@@ -81,10 +87,13 @@ row-in-spec =
     (λ c. search needs)
     (λ c κs. search needs)
     (λ c κs. search needs)
+    (λ c. search needs)
+    (λ c κs. search needs)
     returns
     returns-2
     returns-3
     returns-4
     returns-5
     returns-6
-    returns-7)
+    returns-7
+    returns-8)

@@ -33,6 +33,9 @@ returns-5 c = rw (c .before .row5 .given .1)
 returns-6 : tie.Need-returns-6
 returns-6 c = rw (c .before .row6 .given .1)
 
+returns-7 : tie.Need-returns-7
+returns-7 c = rw (c .before .row7 .given .1)
+
 pub parts-of-spec : {M : Type 1} → statement M
 parts-of-spec =
     tie.close
@@ -45,9 +48,11 @@ parts-of-spec =
     (λ c κs. search needs)
     (λ c. search needs)
     (λ c. search needs)
+    (λ c. search needs)
     returns
     returns-2
     returns-3
     returns-4
     returns-5
-    returns-6)
+    returns-6
+    returns-7)

@@ -51,10 +51,16 @@ returns-8 : tie.Need-returns-8
 returns-8 c = let s = c .before .before .before .before .before .before .args in of-code (s .file .now) (s .at) 7 (c .match .keys8)
 
 returns-9 : tie.Need-returns-9
-returns-9 c =
-    let s = c .before .before .before .before .before .before .args in
-    let r = c .match .rest in
-    of-rest (s .file .now) (s .at) (r .0 .0 .0 .0 .0 .0 .0 .1) (r .0 .0 .0 .0 .0 .0 .1) (r .0 .0 .0 .0 .0 .1) (r .0 .0 .0 .0 .1) (r .0 .0 .0 .1) (r .0 .0 .1) (r .0 .1) (r .1)
+returns-9 c = let s = c .before .before .before .before .before .before .args in of-code (s .file .now) (s .at) 8 (c .match .keys9)
+
+returns-10 : tie.Need-returns-10
+returns-10 c =
+    let m = c .before .before in
+    let w = m .before .before .before in
+    let s = w .before .before .before .args in
+    let r = m .match .rest in
+    rw (w .wide .ensures, c .wide3 .ensures)
+    (of-rest (s .file .now) (s .at) (r .0 .0 .0 .0 .0 .0 .0 .0 .1) (r .0 .0 .0 .0 .0 .0 .0 .1) (r .0 .0 .0 .0 .0 .0 .1) (r .0 .0 .0 .0 .0 .1) (r .0 .0 .0 .0 .1) (r .0 .0 .0 .1) (r .0 .0 .1) (r .0 .1) (r .1))
 
 pub call-at-spec : {M : Type 1} → statement M
 call-at-spec =
@@ -74,6 +80,9 @@ call-at-spec =
     (λ c κs. search needs)
     (λ c. search needs)
     (λ c. search needs)
+    (λ c. search needs)
+    (λ c. search needs)
+    (λ c κs. search needs)
     returns
     returns-2
     returns-3
@@ -82,4 +91,5 @@ call-at-spec =
     returns-6
     returns-7
     returns-8
-    returns-9)
+    returns-9
+    returns-10)

@@ -33,10 +33,16 @@ returns-6 : tie.Need-returns-6
 unfolding lawfulBy
 returns-6 c = rw (c .before .before .row6 .given .1, c .may-abort .ensures)
 
+returns-7 : tie.Need-returns-7
+unfolding lawfulBy
+returns-7 c = rw (c .before .before .row7 .given .1, c .may-hand-over2 .ensures)
+
 pub is-lawful-spec : {M : Type 1} → statement M
 is-lawful-spec =
     tie.close
     (tie.spec
+    (λ c. search needs)
+    (λ c κs. search needs)
     (λ c. search needs)
     (λ c κs. search needs)
     (λ c. search needs)
@@ -54,4 +60,5 @@ is-lawful-spec =
     returns-3
     returns-4
     returns-5
-    returns-6)
+    returns-6
+    returns-7)

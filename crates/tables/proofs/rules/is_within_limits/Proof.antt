@@ -28,6 +28,10 @@ returns-6 : tie.Need-returns-6
 unfolding withinLimitsBy
 returns-6 c vs = rw (c .enum-told5 .given .1)
 
+returns-7 : tie.Need-returns-7
+unfolding withinLimitsBy
+returns-7 c vs = rw (c .before .enum-told6 .given .1, c .has-room2 .ensures vs)
+
 pub is-within-limits-spec : {M : Type 1} → statement M
 is-within-limits-spec =
     tie.close
@@ -41,9 +45,12 @@ is-within-limits-spec =
     (λ c. search needs)
     (λ c. search needs)
     (λ c. search needs)
+    (λ c. search needs)
+    (λ c κs. search needs)
     returns
     returns-2
     returns-3
     returns-4
     returns-5
-    returns-6)
+    returns-6
+    returns-7)

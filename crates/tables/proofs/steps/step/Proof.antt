@@ -40,6 +40,10 @@ returns-6 : tie.Need-returns-6
 unfolding stepBy
 returns-6 c = rw (c .before .before .before .before .before .before .before .before .row6 .given .1) (c .before .before .before .before .after-end2 .ensures)
 
+returns-7 : tie.Need-returns-7
+unfolding stepBy
+returns-7 c = rw (c .before .before .before .before .before .row7 .given .1, c .before .before .hand-over2 .ensures)
+
 pub step-spec : {M : Type 1} → statement M
 step-spec =
     tie.close
@@ -48,6 +52,8 @@ step-spec =
     with-begun-requires
     (λ c. search needs)
     after-change-requires
+    (λ c. search needs)
+    (λ c κs. search needs)
     (λ c. search needs)
     (λ c κs. search needs)
     (λ c. search needs)
@@ -70,4 +76,6 @@ step-spec =
     returns-5
     (λ c. search needs)
     (λ c. search needs)
-    returns-6)
+    returns-6
+    (λ c. search needs)
+    returns-7)

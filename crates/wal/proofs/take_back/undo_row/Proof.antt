@@ -23,10 +23,14 @@ returns-5 c = rw ((c .enum-told4 .given .1))
 returns-6 : tie.Need-returns-6
 returns-6 c = rw ((c .enum-told5 .given .1))
 
+returns-7 : tie.Need-returns-7
+returns-7 c = rw ((c .enum-told6 .given .1))
+
 pub undo-row-spec : {M : Type 1} → statement M
 undo-row-spec =
     tie.close
     (tie.spec
+    (λ c. search needs)
     (λ c. search needs)
     (λ c. search needs)
     (λ c. search needs)
@@ -38,4 +42,5 @@ undo-row-spec =
     returns-3
     returns-4
     returns-5
-    returns-6)
+    returns-6
+    returns-7)
