@@ -1,5 +1,5 @@
 -- 02, L2: "Row rules, scopes and the sum over last holders then count kind 7 as all those single hand-overs", of every cell of which the giver holds a change;
--- and it is accepted where some single hand-over between the two visits is.
+-- and it is accepted exactly where some single hand-over between the two visits is.
 use Prim.Native.Nat.{ℕ}
 use mathlib.Core.Bool.{Bool, true, false, cond, not, _&&_}
 use mathlib.Core.Path.{_≡_, refl, ap, ap₂, sym, _∙_}
@@ -89,13 +89,13 @@ rules-but-rows l (Row.abort v) = refl
 rules-but-rows l (Row.handOverAll g r) = refl
 
 module _ (l : Ledger) (g r : ℕ) (cs : List ℕ) (ne : g ≢ r) (m : HasHeld l g cs) where
-  -- what a later row needs of visits, cells, holders and undo rows
+  -- what the next row needs of visits, cells, holders and undo rows
   pub hand-over-all-rules : (row : Row) → lawful (after l (handOverAll g r)) row ≡ lawful (foldl after l (singles g r cs)) row
   hand-over-all-rules row =
       rules-but-rows (after l (handOverAll g r)) row ∙ ap (λ (k : Ledger). lawful k row) (hand-over-all-is-singles l g r cs ne m) ∙
       sym (rules-but-rows (foldl after l (singles g r cs)) row)
 
-  -- what it needs of the sixteen visits, the scopes and the reserve; the free rows differ, as the number of rows does
+  -- what the next row needs of the sixteen visits, the scopes and the reserve; the free rows differ, as the number of rows does
   pub hand-over-all-active : after l (handOverAll g r) .active ≡ foldl after l (singles g r cs) .active
   hand-over-all-active = ap (λ (k : Ledger). k .active) (hand-over-all-is-singles l g r cs ne m)
 
@@ -182,7 +182,7 @@ hand-over-all-sum cells c rs g r cs later ne m =
 
 -- ── Accepted where some single hand-over is ───────────────────────────────────────────────────────────────────────────
 
--- a visit holds a change exactly when it holds one of some cell, which is a cell
+-- a visit holds a change exactly when it holds one of some cell, from 0 to 223
 held-cell : (l : Ledger) (g : ℕ) → Inv l → holdsAny l g every ≡ true → (c : ℕ) × (isCell c ≡ true) × (holdsAny l g (only c) ≡ true)
 held-cell l g i h =
     let k = any-some (holds g every) (l .changes) h in

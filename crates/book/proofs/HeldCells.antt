@@ -1,11 +1,13 @@
--- 02, L2: a row of kind 7 "means the hand-over of every cell of which the giver holds a change": these cells as a list, each once, and their single hand-overs,
--- which the row rules let follow one another wherever they let the row of kind 7 stand.
+-- 02, L2: a row of kind 7 "means the hand-over of every cell of which the giver holds a change": these cells as a list, each once, and their single hand-overs.
+-- In what they need of visits, cells, holders and undo rows (`lawful`) these may follow one another wherever a row of kind 7 may stand; the free rows are left
+-- out, since they take one row each.
 use Prim.Native.Nat.{ℕ, zero, suc, _+_, _≤_}
 use native.Mathlib.Omega.{arith}
 use mathlib.Core.Bool.{Bool, true, false, cond, _&&_, _||_}
 use mathlib.Core.Path.{_≡_, refl, ap, ap₂, sym, _∙_}
 use mathlib.Core.Logic.{_≢_}
-use mathlib.Core.List.{List, [], _∷_, map, List·Memᴰ·not-nil}
+use mathlib.Core.List.{List, [], _∷_, _++_, map, List·Memᴰ·not-nil}
+use lib.IntN.{ℤ}
 use lib.Dec.{eqb, ltb}
 use borrow.Author.Tests.{eqb-true, eq-eqb, ne-eqb, eqb-false, lt-ltb, le-ltb}
 use Rattle.book.specs.Lists.{In, any, member, tabulate}
@@ -13,11 +15,12 @@ use Rattle.book.specs.Limits.{cellLimit}
 use Rattle.book.specs.Rows.{Row, handOver, handOverAll, isCell}
 use Rattle.book.specs.Ledger.{Change, Ledger, only, holds, given, pass, after, ledger}
 use Rattle.book.specs.Rules.{holdsAny, mayPass, lawful, allowedLog}
+use Rattle.book.specs.Cells.{keptSum}
 use Rattle.book.specs.HandOverAll.{singles, HasHeld, heldFrom, heldCells, allLawful, MeansSingles}
 use Rattle.book.proofs.Lists.{not-is, and-i, and-l, in-cons, any-in, keep-same, member-keep}
 use Rattle.book.proofs.Invariant.{Inv}
 use Rattle.book.proofs.InvariantKept.{inv-log}
-use Rattle.book.proofs.HandOverAll.{hand-over-all-is-singles}
+use Rattle.book.proofs.HandOverAll.{hand-over-all-is-singles, hand-over-all-sum}
 
 -- ── The cells of which a visit holds a change ─────────────────────────────────────────────────────────────────────────
 
@@ -92,16 +95,26 @@ module _ (g r : ℕ) (ne : g ≢ r) where
 
 -- ── What a row of kind 7 means ────────────────────────────────────────────────────────────────────────────────────────
 
--- after an allowed log, where the rules let a row of kind 7 follow
-pub hand-over-all-means : (rs : List Row) (g r : ℕ) → allowedLog rs ≡ true → lawful (ledger rs) (handOverAll g r) ≡ true → MeansSingles (ledger rs) g r
-unfolding lawful
-hand-over-all-means rs g r al e =
-    let l = ledger rs in
-    let may : mayPass l g r ≡ true = and-l (mayPass l g r) _ e in
-    let two : eqb g r ≡ false = not-is (eqb g r) (search (and-l) depth 8) in
-    let ne : g ≢ r = eqb-false g r two in
-    record {
-      cells = held-cells l g;
-      follow = lawful-from g r ne cellLimit 0 l may;
-      same = hand-over-all-is-singles l g r (heldCells l g) ne (has-held l g (inv-log rs al));
-    }
+-- after an allowed log, where a row of kind 7 is lawful
+module _ (rs : List Row) (g r : ℕ) (al : allowedLog rs ≡ true) (e : lawful (ledger rs) (handOverAll g r) ≡ true) where
+  two : g ≢ r
+  unfolding lawful
+  two = eqb-false g r (not-is (eqb g r) (search (and-l) depth 8))
+
+  may : mayPass (ledger rs) g r ≡ true
+  unfolding lawful
+  may = and-l (mayPass (ledger rs) g r) _ e
+
+  pub hand-over-all-means : MeansSingles (ledger rs) g r
+  hand-over-all-means =
+      let l = ledger rs in
+      record {
+        cells = held-cells l g;
+        follow = lawful-from g r two cellLimit 0 l may;
+        same = hand-over-all-is-singles l g r (heldCells l g) two (has-held l g (inv-log rs al));
+      }
+
+  -- the sum over last holders, whatever rows follow
+  pub hand-over-all-kept : (cells : ℕ → ℤ) (c : ℕ) (later : List Row)
+      → keptSum cells (rs ++ (handOverAll g r ∷ later)) c ≡ keptSum cells (rs ++ (singles g r (heldCells (ledger rs) g) ++ later)) c
+  hand-over-all-kept cells c later = hand-over-all-sum cells c rs g r (heldCells (ledger rs) g) later two (has-held (ledger rs) g (inv-log rs al))

@@ -67,7 +67,7 @@ pub extremes-read : read 3 (rowsBytes 1 extremes) ≡ good extremes
 unfolding computes
 extremes-read = refl
 
--- two visits and a change, handed over with all that the first holds
+-- two visits, a change by the first, and the hand-over of all that it holds
 abbrev fourRows : List Row
 fourRows = Row.begin 1 ∷ Row.begin 2 ∷ Row.change 1 9 (pos 1) ∷ Row.handOverAll 1 2 ∷ []
 

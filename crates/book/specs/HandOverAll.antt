@@ -47,7 +47,7 @@ heldFrom l g n from = keep (λ c. holdsAny l g (only c)) (tabulate n from (λ c.
 abbrev pub heldCells : Ledger → ℕ → List ℕ
 heldCells l g = heldFrom l g cellLimit 0
 
--- each row follows the rules after those before it; the free rows are another matter, since there are more rows than one
+-- each row is lawful after those before it; the ranges of the fields and the free rows are left out, since the single hand-overs take one row each
 abbrev pub allLawful : Ledger → List Row → Bool
 allLawful l [] = true
 allLawful l (row ∷ rs) = lawful l row && allLawful (after l row) rs
@@ -56,7 +56,7 @@ allLawful l (row ∷ rs) = lawful l row && allLawful (after l row) rs
 pub record MeansSingles (l : Ledger) (g r : ℕ) : Type 0 where
   -- the list has the cells of which the giver holds a change, and no other
   pub cells : (c : ℕ) → member c (heldCells l g) ≡ (holdsAny l g (only c) && isCell c)
-  -- the rules let the single hand-overs of these cells follow one another
+  -- the single hand-overs of these cells are lawful, one after another
   pub follow : allLawful l (singles g r (heldCells l g)) ≡ true
   -- and they come to what the row of kind 7 comes to, but for the number of rows
   pub same : butRows (after l (handOverAll g r)) ≡ butRows (foldl after l (singles g r (heldCells l g)))

@@ -78,21 +78,21 @@ flushed x p =
     }
 
 -- the row is written, and the giver's scopes of these cells pass to the receiver
-abbrev pub handed : Core → Row → ℕ → ℕ → (ℕ → Bool) → Core
-handed x row g r cs = record { ram = written (x .ram) row; charts = x .charts; tables = x .tables; scopes = scopesHanded (x .tables .used) g r cs (x .scopes) }
+abbrev pub cellsHanded : Core → Row → ℕ → ℕ → (ℕ → Bool) → Core
+cellsHanded x row g r cs = record { ram = written (x .ram) row; charts = x .charts; tables = x .tables; scopes = scopesHanded (x .tables .used) g r cs (x .scopes) }
 
 unfoldable pub acted : Core → Call → Core
 acted x Call.begin =
     let v : ℕ = suc (x .tables .begun) in
     record { ram = written (x .ram) (Row.begin v); charts = x .charts; tables = withBegun (x .tables) v; scopes = x .scopes }
 acted x (Call.change v c a) = changed x v c a
-acted x (Call.handOver g r c) = handed x (Row.handOver g r c) g r (only c)
+acted x (Call.handOver g r c) = cellsHanded x (Row.handOver g r c) g r (only c)
 acted x (Call.commit v) = visitEnded (withRam x (forcedRam (written (x .ram) (Row.commit v)))) v
 acted x (Call.abort v) = let y : Core = fell x v in visitEnded (withRam y (written (y .ram) (Row.abort v))) v
 acted x Call.force = withRam x (forcedRam (x .ram))
 acted x (Call.flush p) = flushed x p
 acted x (Call.read c) = x
-acted x (Call.handOverAll g r) = handed x (Row.handOverAll g r) g r every
+acted x (Call.handOverAll g r) = cellsHanded x (Row.handOverAll g r) g r every
 
 -- the value of an accepted call by what it returns: of the visits begun before it, the rows after it, and the copy
 abbrev pub valueFrom : ℕ → ℕ → List ℕ → Return → ℤ

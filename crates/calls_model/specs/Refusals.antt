@@ -1,4 +1,4 @@
--- 01, "Refusals by place", from begin on, in checking order: by the tables and the number of rows; 0 where none applies.
+-- 01, "Refusals by place", from begin on, and 02, L2, in checking order: by the tables and the number of rows; 0 where none applies.
 use Prim.Native.Nat.{ℕ}
 use mathlib.Core.Bool.{Bool, true, not, _||_}
 use lib.Dec.{leb, ltb, eqb}

@@ -26,7 +26,7 @@ file fuse =
 abbrev digits : ℕ → ℕ → ℕ → ℕ → ℕ → ℕ → List ℕ
 digits a b c d e f = (48 + a) ∷ 32 ∷ (48 + b) ∷ 32 ∷ (48 + c) ∷ 32 ∷ (48 + d) ∷ 32 ∷ (48 + e) ∷ 32 ∷ (48 + f) ∷ 10 ∷ []
 
--- the lines that do not hang on the fuse
+-- the first six lines, which do not depend on the fuse; those of `wholeVisit` are the same
 abbrev first : List ℕ
 first = digits 1 0 0 0 0 0 ++ digits 1 1 0 1 0 0 ++ digits 1 2 0 2 0 0 ++ digits 1 3 0 3 0 0 ++ digits 1 4 0 4 0 0 ++ digits 1 5 0 5 0 0
 
