@@ -227,17 +227,25 @@ pub fn change(ram: &mut Ram, lent: &mut Lent, visit: u16, cell: u8, amount: i16)
     finish(ram, lent, result)
 }
 
+/// The checks that both hand-overs make before they look at cells; gives the rows that are free beyond the
+/// reserve.
+#[inline]
+fn room_between(ram: &Ram, lent: &Lent, giver: u16, receiver: u16) -> Result<usize, Refused> {
+    let room = room(ram, lent)?;
+    if !ram.tables.is_active(giver) || !ram.tables.is_active(receiver) {
+        return Err(Refused(9));
+    }
+    if giver == receiver {
+        return Err(Refused(12));
+    }
+    Ok(room)
+}
+
 pub fn hand_over(ram: &mut Ram, lent: &mut Lent, giver: u16, receiver: u16, cell: u8) -> Answer {
-    let room = match room(ram, lent) {
+    let room = match room_between(ram, lent, giver, receiver) {
         Ok(room) => room,
         Err(Refused(number)) => return refused(number),
     };
-    if !ram.tables.is_active(giver) || !ram.tables.is_active(receiver) {
-        return refused(9);
-    }
-    if giver == receiver {
-        return refused(12);
-    }
     if usize::from(cell) >= CELLS {
         return refused(10);
     }
@@ -253,16 +261,10 @@ pub fn hand_over(ram: &mut Ram, lent: &mut Lent, giver: u16, receiver: u16, cell
 }
 
 pub fn hand_over_all(ram: &mut Ram, lent: &mut Lent, giver: u16, receiver: u16) -> Answer {
-    let room = match room(ram, lent) {
+    let room = match room_between(ram, lent, giver, receiver) {
         Ok(room) => room,
         Err(Refused(number)) => return refused(number),
     };
-    if !ram.tables.is_active(giver) || !ram.tables.is_active(receiver) {
-        return refused(9);
-    }
-    if giver == receiver {
-        return refused(12);
-    }
     if !ram.tables.holds_any(lent.scopes, giver) {
         return refused(13);
     }
