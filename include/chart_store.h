@@ -63,7 +63,7 @@ extern "C" {
 #endif
 
 /* Of this header. The archive does not know it: link the two from one version. */
-#define CHART_VERSION 3
+#define CHART_VERSION 4
 
 /* ---- Limits ---- */
 
@@ -125,7 +125,7 @@ static inline unsigned chart_pages(chart_answer a) { return (unsigned)((a >> 56)
 /* The refusal numbers. Where no value is named it is 0. */
 enum {
     CHART_DONE = 0,
-    CHART_WRONG_LENGTH = 1,    /* log or charts have another length, or a format other than CHART_CELLS cells */
+    CHART_WRONG_LENGTH = 1,    /* log or charts have another length, or a format other than CHART_CELLS cells; redo page: log or page have another length */
     CHART_OUT_OF_RANGE = 2,    /* format: a cell beyond 1,000,000 g either way; the value is the first such cell */
     CHART_BAD_ROW = 3,         /* open: a row that is not allowed, or a byte after the end; the value is its row. The store is closed; log and charts are unchanged */
     CHART_BAD_PAGE = 4,        /* open: a page with a mark that is no row of it, bytes 2-3 not 0, or a cell out of bounds; the value is the page. Else as 3 */
@@ -138,7 +138,7 @@ enum {
     CHART_SCOPES_USED_UP = 11, /* change: 64 scopes are in use */
     CHART_SAME_VISIT = 12,     /* hand over, hand over all: giver and receiver are the same visit */
     CHART_HOLDS_NONE = 13,     /* hand over: the giver holds no change of the cell; hand over all: it holds no change at all */
-    CHART_NO_SUCH_PAGE = 14    /* flush: the page is above 31 */
+    CHART_NO_SUCH_PAGE = 14    /* flush, redo page: the page is above 31 */
 };
 
 /* A refusal number in words, for a message. */
@@ -241,6 +241,28 @@ static inline chart_answer chart_flush(const chart_store *s, uint8_t page) { ret
 static inline chart_answer chart_read(const chart_store *s, uint8_t cell) { return chart_read_on(CHART_OF(s), cell); }
 
 #undef CHART_OF
+
+/* ---- A page by itself ---- */
+
+/* The forward part of an opening for one page, by the log and that page's bytes alone: each change or undo row of the page above its mark is applied, and the
+ * last one becomes the mark. It is no call of a store: it is lent no RAM, stores nothing, and may come at any time between two calls.
+ *
+ *   log     the stored log, CHART_LOG_LENGTH bytes; it is only read
+ *   page    CHART_PAGE_LENGTH bytes of page `number`, as the stored charts have them; they are worked on where they lie, and do not overlap the log
+ *
+ * Where chart_open would take log and charts, the page is then as that opening has it before it undoes anything: with the changes that no visit committed.
+ * The pages may be taken in any order, and any of them again; a page that was redone does not change any more. All 32 of them give the copy from which the
+ * opening goes on:
+ *
+ *     uint8_t copy[CHART_CHARTS_LENGTH];
+ *     unsigned p;
+ *     memcpy(copy, charts, sizeof copy);
+ *     for (p = CHART_PAGES; p-- > 0;)
+ *         chart_redo_page(log, CHART_LOG_LENGTH, copy + p * CHART_PAGE_LENGTH, CHART_PAGE_LENGTH, (uint8_t)p);
+ *
+ * Log and page are not checked. Whatever bytes they hold, it goes by the rows before the first one whose kind is 0, ends, and changes no byte but those of the
+ * mark and of the cells. Value 0, and no stored writes. Refusals 1, 14; they change nothing. */
+chart_answer chart_redo_page(const uint8_t *log, uint64_t log_length, uint8_t *page, uint64_t page_length, uint8_t number);
 
 #ifdef __cplusplus
 }

@@ -1,10 +1,10 @@
 //! The two implementations as `Store`s.
 
 use crate::fast::{self, Fuse, Lent, Phase, Ram};
-use crate::paper::{Ledger, Paper, Row};
+use crate::paper::{self, Ledger, Paper, Row};
 use crate::prng::Rng;
 use crate::store::{noise, take_over, with_length};
-use crate::store::{Answer, Buffer, Call, Host, Scope, State, Store, RIGHT, ROW, ROWS};
+use crate::store::{Answer, Buffer, Call, Host, Scope, State, Store, Writes, RIGHT, ROW, ROWS};
 
 impl Paper {
     /// The state of a store that has these rows in log and tail, and so many scopes in use.
@@ -94,6 +94,15 @@ impl Store for Paper {
         ram.extend(&self.copy);
         ram.extend(self.tail.iter().flat_map(|row| row.bytes()));
         ram
+    }
+
+    fn redo_page(&self, log: &[u8], page: &mut [u8], number: u8) -> Option<Answer> {
+        let outcome = paper::redo_page(log, page, number);
+        Some(Paper::new().answer(outcome))
+    }
+
+    fn forward(&self) -> Option<Vec<u8>> {
+        Paper::forward(self).ok().map(|(_, copy)| copy)
     }
 
     fn copied(&self) -> Box<dyn Store> {
@@ -253,6 +262,20 @@ impl Store for FastStore {
         }
         let open: usize = self.scopes[..state.used].iter().map(|scope| usize::from(scope.count)).sum();
         state.stored + state.waiting + state.active + open <= ROWS
+    }
+
+    fn redo_page(&self, log: &[u8], page: &mut [u8], number: u8) -> Option<Answer> {
+        Some(fast::redo_page(log, page, number))
+    }
+
+    fn forward(&self) -> Option<Vec<u8>> {
+        let host = Host { lengths: RIGHT, ..self.host.clone() };
+        let mut store = FastStore { host, ..FastStore::new() };
+        let answer = store.with_lent(|ram, lent| match fast::forward(&mut ram.tables, lent) {
+            Ok(_) => Answer { number: 0, value: 0, writes: Writes::NONE },
+            Err(refusal) => refusal,
+        });
+        (answer.number == 0).then_some(store.host.copy)
     }
 
     fn copied(&self) -> Box<dyn Store> {

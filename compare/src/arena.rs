@@ -4,6 +4,7 @@
 mod careless;
 mod endings;
 mod memory;
+mod pages;
 mod power;
 
 use crate::cover::{number_of, Cover};
@@ -163,6 +164,11 @@ impl<'a> Arena<'a> {
                 });
                 Ok(NO_CALL)
             }
+            Step::RedoPages(pages) => {
+                self.redo_pages(&pages)?;
+                Ok(NO_CALL)
+            }
+            Step::RedoLent { log, page, number } => self.redo_lent(log, page, number),
             Step::Garbage(seed, calls) => {
                 self.careless_host(seed, &calls)?;
                 Ok(NO_CALL)

@@ -9,6 +9,7 @@ pub mod document;
 pub mod full_tails;
 pub mod garbage;
 pub mod limits;
+pub mod pages_alone;
 pub mod row_bytes;
 pub mod rows;
 pub mod runfiles;
@@ -31,7 +32,7 @@ pub struct Part {
     pub play: fn(&mut Bench, u64) -> Result<(), Failure>,
 }
 
-pub const PARTS: [Part; 15] = [
+pub const PARTS: [Part; 16] = [
     Part {
         name: "document",
         about: "the cases of documents 01 and 02, with their answers",
@@ -92,6 +93,12 @@ pub const PARTS: [Part; 15] = [
         about: "stores at several limits at once, calls with arguments at theirs",
         seeds: [72, 320],
         play: crowded::play,
+    },
+    Part {
+        name: "pages alone",
+        about: "pages redone alone in random orders, against the copy of an opening",
+        seeds: [600, 6_000],
+        play: pages_alone::play,
     },
     Part {
         name: "all visits",

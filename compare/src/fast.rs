@@ -12,7 +12,7 @@ mod rows;
 mod tables;
 
 use crate::store::{Answer, Scope, Writes, CELLS, RIGHT};
-use charts::{bad_page, get_cell, redo, set_cell, PAGES};
+use charts::{bad_page, get_cell, redo, redo_alone, set_cell, PAGE, PAGES};
 use journal::{append, force_all, lose_ram, store_page, Stopped};
 use recovery::{check_log, roll_back};
 use rows::{Row, Rows, BEGIN, CHANGE, COMMIT, HAND_OVER, HAND_OVER_ALL, ROW, ROWS};
@@ -142,25 +142,43 @@ pub fn open(ram: &mut Ram, lent: &mut Lent, fuse: Fuse) -> Answer {
         return refused(1);
     }
     lose_ram(ram, lent);
-    let stored = match check_log(&mut ram.tables, lent.scopes, lent.log) {
+    let stored = match forward(&mut ram.tables, lent) {
         Ok(stored) => stored,
-        Err(row) => {
+        Err(refusal) => {
             lose_ram(ram, lent);
-            return refused_at(3, row);
+            return refusal;
         }
     };
-    let rows = Rows { log: lent.log, stored, tail: &[] };
-    if let Some(page) = bad_page(lent.charts, &rows) {
-        lose_ram(ram, lent);
-        return refused_at(4, page);
-    }
-    lent.copy.copy_from_slice(lent.charts);
-    redo(lent.copy, &rows);
     ram.phase = Phase::Open;
     ram.fuse = fuse;
     ram.stored = stored;
     let result = roll_back(ram, lent);
     finish(ram, lent, result)
+}
+
+/// The checks of an opening, and the copy as it is before the opening goes backward; gives the rows of the
+/// log. Tables and scopes are those of no rows.
+pub fn forward(tables: &mut Tables, lent: &mut Lent) -> Result<u16, Answer> {
+    let stored = check_log(tables, lent.scopes, lent.log).map_err(|row| refused_at(3, row))?;
+    let rows = Rows { log: lent.log, stored, tail: &[] };
+    if let Some(page) = bad_page(lent.charts, &rows) {
+        return Err(refused_at(4, page));
+    }
+    lent.copy.copy_from_slice(lent.charts);
+    redo(lent.copy, &rows);
+    Ok(stored)
+}
+
+/// The forward part for one page, by the log and that page's bytes alone.
+pub fn redo_page(log: &[u8], page: &mut [u8], number: u8) -> Answer {
+    if log.len() != RIGHT.log || page.len() != PAGE {
+        return refused(1);
+    }
+    if usize::from(number) >= PAGES {
+        return refused(14);
+    }
+    redo_alone(page, usize::from(number), log);
+    done(0)
 }
 
 /// The number of a refusal that every call but format and open can give.

@@ -2,6 +2,7 @@
 
 pub mod conditions;
 pub mod openings;
+pub mod pages;
 mod whole_visits;
 mod writes;
 

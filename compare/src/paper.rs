@@ -475,6 +475,35 @@ pub fn check_pages(charts: &[u8], rows: &[Row]) -> Result<(), usize> {
     Ok(())
 }
 
+// ------------------------------------------------------------------------------- a page alone
+
+/// 02, L3: "Lent the log and one page's 32 bytes alone, with its number, it leaves that page as the
+/// opening has it before going backward." It is lent bytes that no opening has checked, so a row has the
+/// number of its place, and sums wrap.
+pub fn redo_page(log: &[u8], page: &mut [u8], number: u8) -> Outcome {
+    // "every call | 1: a lent buffer has another length", "flush | 14: page above 31"
+    refuse_if(log.len() != RIGHT.log || page.len() != PAGE_BYTES, 1)?;
+    refuse_if(number as usize >= PAGES, 14)?;
+    // "Each change or undo row whose number exceeds its page's mark is applied."
+    for (row, place) in rows_of(log).iter().zip(1..) {
+        let is_on_page = row.is_change_or_undo() && page_of(row.cell) == number as usize;
+        if is_on_page && place > get_mark(page, 0) {
+            // "A change is added, an undo subtracted, and the mark set." By itself a page stands where
+            // page 0 does.
+            let cell = row.cell % CELLS_PER_PAGE as u8;
+            let before = get_cell(page, cell);
+            let amount = i32::from(row.change);
+            let after = match row.kind {
+                CHANGE => before.wrapping_add(amount),
+                _ => before.wrapping_sub(amount),
+            };
+            set_cell(page, cell, after);
+            set_mark(page, 0, place);
+        }
+    }
+    Ok(0)
+}
+
 // --------------------------------------------------------------------------------------- power
 
 /// A refusal of the table: its number, and the value where one is named.
@@ -656,26 +685,33 @@ impl Paper {
         Ok(0)
     }
 
-    /// "Open may come in any state; what was in RAM is lost. It checks log, then pages, and loads
-    /// the copy."
+    /// What an opening has before it goes backward: the rows of the log, and the copy.
+    /// "It checks log, then pages, and loads the copy. Forward: each change or undo row whose number
+    /// exceeds its page's mark is applied."
+    pub fn forward(&self) -> Result<(Ledger, Vec<u8>), Refusal> {
+        let ledger = check_log(&self.log).map_err(|row| Refusal { number: 3, value: row as i64 })?;
+        check_pages(&self.charts, &ledger.rows)
+            .map_err(|page| Refusal { number: 4, value: page as i64 })?;
+        let mut copy = self.charts.clone();
+        for row in &ledger.rows {
+            if row.is_change_or_undo() && row.number > get_mark(&copy, page_of(row.cell)) {
+                apply(&mut copy, row);
+            }
+        }
+        Ok((ledger, copy))
+    }
+
+    /// "Open may come in any state; what was in RAM is lost."
     /// "After 3 or 4 log and charts are unchanged, while copy, tail and scopes end as after a power
     /// failure and the store is closed."
     pub fn open(&mut self, fuse: Option<u32>) -> Outcome {
         self.check_lengths()?;
         self.lose_ram();
-        let ledger = check_log(&self.log).map_err(|row| Refusal { number: 3, value: row as i64 })?;
-        check_pages(&self.charts, &ledger.rows)
-            .map_err(|page| Refusal { number: 4, value: page as i64 })?;
-        self.copy.copy_from_slice(&self.charts);
+        let (ledger, copy) = self.forward()?;
+        self.copy = copy;
         self.open = true;
         self.fuse = fuse;
 
-        // "Forward: each change or undo row whose number exceeds its page's mark is applied."
-        for row in &ledger.rows {
-            if row.is_change_or_undo() && row.number > get_mark(&self.copy, page_of(row.cell)) {
-                apply(&mut self.copy, row);
-            }
-        }
         // "Backward: open changes fall in descending row number over all visits, each by an undo
         // row."
         let mut rows_written = 0;

@@ -68,6 +68,24 @@ calls! {
     fn chart_read_on(cell: u8);
 }
 
+extern "C" {
+    fn chart_redo_page(
+        log: *const u8,
+        log_length: u64,
+        page: *mut u8,
+        page_length: u64,
+        number: u8,
+    ) -> u64;
+}
+
+/// The forward part of an opening for one page alone: no call of a store.
+#[inline(never)]
+pub fn redo_page(log: &[u8], page: &mut [u8], number: u8) -> Answer {
+    unpacked(unsafe {
+        chart_redo_page(log.as_ptr(), log.len() as u64, page.as_mut_ptr(), page.len() as u64, number)
+    })
+}
+
 /// A proved store with what it is lent.
 #[derive(Clone)]
 pub struct Proved {
@@ -259,6 +277,10 @@ impl Store for ProvedStore {
 
     fn ram(&self) -> Vec<u8> {
         self.store.ram.bytes()
+    }
+
+    fn redo_page(&self, log: &[u8], page: &mut [u8], number: u8) -> Option<Answer> {
+        Some(redo_page(log, page, number))
     }
 
     fn copied(&self) -> Box<dyn Store> {

@@ -117,6 +117,10 @@ fn step(step: &Step) -> String {
         Step::WriteCharts(at, bytes) => {
             format!("(the host writes {bytes:?} to page {} from byte {})", at / 32, at % 32)
         }
+        Step::RedoPages(pages) => format!("redo alone: pages {pages:?}"),
+        Step::RedoLent { log, page, number } => {
+            format!("redo alone: page {number}, a log of {log} bytes and a page of {page}")
+        }
         Step::Garbage(seed, calls) => {
             let mut text = format!("(arbitrary RAM and buffers, seed {seed}, then)");
             for made in calls {

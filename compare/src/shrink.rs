@@ -291,6 +291,13 @@ fn simpler(step: &Step) -> Vec<Step> {
             .filter(|simple| *simple != (*cell, *amount))
             .map(|(cell, amount)| Step::Call(Call::Change { visit: *visit, cell, amount }))
             .collect(),
+        Step::RedoPages(pages) => (0..pages.len())
+            .map(|at| {
+                let mut fewer = pages.clone();
+                fewer.remove(at);
+                Step::RedoPages(fewer)
+            })
+            .collect(),
         Step::Garbage(seed, calls) => (0..calls.len())
             .map(|at| {
                 let mut fewer = calls.clone();

@@ -17,6 +17,14 @@ pub enum Step {
     WriteLogByte(usize, u8),
     /// Writes bytes of the stored charts.
     WriteCharts(usize, Vec<u8>),
+    /// Redoes these pages of the stored charts alone, one after the other, and leaves the store as it is.
+    RedoPages(Vec<u8>),
+    /// Redoes a page of this number alone, with a log and a page of these lengths.
+    RedoLent {
+        log: usize,
+        page: usize,
+        number: u8,
+    },
     /// Calls on arbitrary RAM or on altered buffers: `arena/careless.rs` says what is asked of them.
     Garbage(u64, Vec<Call>),
 }

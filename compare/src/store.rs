@@ -181,6 +181,17 @@ pub trait Store {
         state.open && state.is_within_limits()
     }
 
+    /// 02, L3: lent this log and one page's bytes alone, with its number, leaves the page as an opening has
+    /// it before going backward. None where the implementation has no function for it.
+    fn redo_page(&self, _log: &[u8], _page: &mut [u8], _number: u8) -> Option<Answer> {
+        None
+    }
+    /// The copy as an opening has it before going backward. None where the opening is refused before, and
+    /// where the implementation does not show it.
+    fn forward(&self) -> Option<Vec<u8>> {
+        None
+    }
+
     /// The same store once more, memory and RAM.
     fn copied(&self) -> Box<dyn Store>;
     /// Puts another fuse in the place of the one that runs.

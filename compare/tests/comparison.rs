@@ -4,7 +4,7 @@ use compare::adapters::FastStore;
 use compare::arena::{Arena, Maker};
 use compare::bench::{Bench, Failure};
 use compare::cases::sessions::{habits, next_call, Habits};
-use compare::cases::{garbage, sessions};
+use compare::cases::{garbage, pages_alone, sessions};
 use compare::cover::Cover;
 use compare::paper::{get_cell, Ledger, Paper, Row};
 use compare::paper::{ABORT, BEGIN, CHANGE, COMMIT, HAND_OVER, HAND_OVER_ALL, UNDO};
@@ -35,6 +35,12 @@ enum Fault {
     Cut,
     /// It counts a row too many in RAM that no calls leave: the first active visit is 0.
     AlteredCount,
+    /// It applies the row of a page's mark again when it redoes the page alone.
+    Mark,
+    /// It alters a page alone that it refuses.
+    Lent,
+    /// It goes backward from the charts as they are stored.
+    Forward,
 }
 
 /// A store with a fault.
@@ -104,6 +110,21 @@ impl Store for Wrong {
         }
         ram
     }
+    fn redo_page(&self, log: &[u8], page: &mut [u8], number: u8) -> Option<Answer> {
+        if self.fault == Fault::Mark && page.len() == 32 {
+            let mark = u16::from_le_bytes([page[0], page[1]]);
+            page[..2].copy_from_slice(&mark.saturating_sub(1).to_le_bytes());
+        }
+        let answer = self.store.redo_page(log, page, number)?;
+        if self.fault == Fault::Lent && answer.number != 0 {
+            page.iter_mut().for_each(|byte| *byte ^= 1);
+        }
+        Some(answer)
+    }
+    fn forward(&self) -> Option<Vec<u8>> {
+        let copy = self.store.forward()?;
+        Some(if self.fault == Fault::Forward { self.charts().to_vec() } else { copy })
+    }
     fn is_ready(&self) -> bool {
         self.store.is_ready()
     }
@@ -172,6 +193,16 @@ fn wrong_counts_are_found() {
     }
     let (_, failure) = found(|| Wrong::boxed(Fault::AlteredCount), garbage::play);
     assert!(failure.difference.text.contains("it counts"), "{}", failure.difference.text);
+}
+
+#[test]
+fn pages_alone_that_are_wrong_are_found() {
+    let (_, mark) = found(|| Wrong::boxed(Fault::Mark), pages_alone::play);
+    assert!(mark.difference.text.contains("pages redone alone"), "{}", mark.difference.text);
+    let (_, lent) = found(|| Wrong::boxed(Fault::Lent), pages_alone::play);
+    assert!(lent.difference.text.contains("leaves other bytes"), "{}", lent.difference.text);
+    let (_, forward) = found(|| Wrong::boxed(Fault::Forward), pages_alone::play);
+    assert!(forward.difference.text.contains("pages redone alone"), "{}", forward.difference.text);
 }
 
 #[test]

@@ -2,6 +2,7 @@
 //! log, whether or not any calls would have made it, so that undo rows of several visits stand in
 //! turns and visits stay half undone. Rows that are refused are tried at the end of the log.
 
+use super::pages_alone::order;
 use super::sessions::{amount, formatted, fuse, habits, held_cell, holding_visit, next_call, Habits};
 use crate::arena::{Arena, Outcome};
 use crate::bench::{Bench, Failure};
@@ -160,6 +161,7 @@ fn open_and_try(
         arena.step(Step::Format(formatted(rng)))?;
         arena.step(Step::WriteLog(made.rows.clone()))?;
         store_pages(rng, arena, &made.rows)?;
+        arena.step(Step::RedoPages(order(&mut Rng::new(made.rows.len() as u64))))?;
         if rng.chance(1, 2) {
             arena.step(Step::Scramble(rng.draw()))?;
         }

@@ -6,7 +6,7 @@ use mathlib.Core.Path.{_≡_, refl, ap, ap₂, sym, _∙_}
 use mathlib.Core.Bool.{Bool, true, false, cond, _||_}
 use mathlib.Core.List.{List, [], _∷_, _++_}
 use lib.ListN.{length, getD, take, drop, length-take, length-drop, List·getD-eq-default}
-use lib.Seq.{getD-take, getD-drop, length-take-le}
+use lib.Seq.{sets, getD-take, getD-drop, length-take-le}
 use lib.IntN.{ℤ, pos, negℤ, _+ℤ_, _-ℤ_, natAbs, -ℤ-+ℤ-cancel}
 use lib.Dec.{eqb, ltb}
 use borrow.Author.Tests.{eqb-true, ne-eqb, le-leb, lt-ltb, ltb-true, ltb-false}
@@ -15,7 +15,7 @@ use Rattle.book.specs.Rows.{Row}
 use Rattle.book.specs.Ledger.{empty}
 use Rattle.book.specs.Rules.{allowedLog}
 use Rattle.book.specs.Cells.{pageOfCell, onPage, lastOn}
-use Rattle.book.specs.Numbers.{le, number, bitsOf, signed, within}
+use Rattle.book.specs.Numbers.{AreBytes, le, number, bitsOf, signed, within}
 use Rattle.book.specs.Pages.{pageBytes, chartBytes, pageAt, pageOf, cellOf, pageAfter, rowAt, isPage}
 use Rattle.book.specs.Opening.{badPage}
 use Rattle.book.proofs.Lists.{clash, and-l, and-r}
@@ -24,16 +24,12 @@ use Rattle.book.proofs.Blocks.{listed, blocks, tabulate-same, first-all
 use Rattle.book.proofs.Marks.{sumOf, abs-add, abs-neg, abs-sum, take-allowed, take-few}
 use Rattle.book.proofs.Pages.{page-same, within-abs, page-of, asOf, chartsAsOf, Bounded}
 
--- the numbers of the list are bytes
-abbrev pub AreBytes : List ℕ → Type 0
-AreBytes bs = (i : ℕ) → getD bs i 0 < 256
-
 -- ── A page's 32 bytes ─────────────────────────────────────────────────────────────────────────────────────────────────
 
--- 32 bytes with zeros in bytes 2 and 3 are those of the page that they are read as
-pub page-exact : (bs : List ℕ) → length bs ≡ 32 → AreBytes bs → number 2 bs 2 ≡ 0 → bs ≡ pageBytes (pageOf bs)
+-- 32 bytes are those of the page that they are read as, but for bytes 2 and 3
+pub page-read : (bs : List ℕ) → length bs ≡ 32 → AreBytes bs → bs ≡ sets (pageBytes (pageOf bs)) 2 (getD bs 2 0 ∷ getD bs 3 0 ∷ [])
 unfolding pageBytes pageOf
-page-exact bs long byte z = listed bs ∙ ap (λ (m : ℕ). tabulate m 0 b) long ∙ sym whole
+page-read bs long byte = listed bs ∙ ap (λ (m : ℕ). tabulate m 0 b) long ∙ sym whole
   where
     b : ℕ → ℕ
     b i = getD bs i 0
@@ -47,15 +43,20 @@ page-exact bs long byte z = listed bs ∙ ap (λ (m : ℕ). tabulate m 0 b) long
         ap (le 4) (bits-signed 32 (number 4 bs i) (four-below (b i) (b (suc i)) (b (suc (suc i))) (b (suc (suc (suc i)))) s t u v)) ∙
         four-back (b i) (b (suc i)) (b (suc (suc i))) (b (suc (suc (suc i)))) s t u v
 
-    zeros : 0 ∷ 0 ∷ [] ≡ b 2 ∷ b 3 ∷ []
-    zeros = let two : b 2 ≡ 0 = omega arith in let three : b 3 ≡ 0 = omega arith in rw (two, three)
-
-    whole : pageBytes (pageOf bs) ≡ tabulate 32 0 b
+    whole : sets (pageBytes (pageOf bs)) 2 (b 2 ∷ b 3 ∷ []) ≡ tabulate 32 0 b
     whole =
         ap₂
-        (λ (x y : List ℕ). x ++ y)
-        (ap₂ (λ (x y : List ℕ). x ++ y) (two-back (b 0) (b 1) (byte 0) (byte 1)) zeros)
+        (λ (x y : List ℕ). x ++ (b 2 ∷ b 3 ∷ y))
+        (two-back (b 0) (b 1) (byte 0) (byte 1))
         (ap join (tabulate-same 7 0 (λ j. le 4 (bitsOf 32 (signed 32 (number 4 bs (4 + 4 * j))))) (λ j. four (4 + 4 * j)) (λ j f k. cell (4 + 4 * j))))
+
+-- with zeros there they are those of the page
+pub page-exact : (bs : List ℕ) → length bs ≡ 32 → AreBytes bs → number 2 bs 2 ≡ 0 → bs ≡ pageBytes (pageOf bs)
+unfolding pageBytes
+page-exact bs long byte z =
+    let two : getD bs 2 0 ≡ 0 = omega arith in
+    let three : getD bs 3 0 ≡ 0 = omega arith in
+    page-read bs long byte ∙ ap₂ (λ (x y : ℕ). sets (pageBytes (pageOf bs)) 2 (x ∷ y ∷ [])) two three
 
 -- ── Each page is as of the row of its mark ────────────────────────────────────────────────────────────────────────────
 

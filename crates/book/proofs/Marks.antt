@@ -131,6 +131,11 @@ pub last-append : (p : ℕ) (xs ys : List Row) → lastOn p ys ≡ 0 → lastOn 
 last-append p [] ys e = e
 last-append p (x ∷ xs) ys e = rw (last-append p xs ys e)
 
+-- the last row of the page among later rows, counted from the first row on
+pub last-behind : (p : ℕ) (xs ys : List Row) → 1 ≤ lastOn p ys → lastOn p (xs ++ ys) ≡ length xs + lastOn p ys
+last-behind p [] ys h = omega arith
+last-behind p (x ∷ xs) ys h = let ih = last-behind p xs ys h in rw (ih, le-leb 1 (length xs + lastOn p ys) (omega arith)) (omega arith)
+
 -- the rows up to the page's last have that last row
 pub last-take : (p : ℕ) (rs : List Row) → lastOn p (take (lastOn p rs) rs) ≡ lastOn p rs
 last-take p rs =

@@ -4,7 +4,7 @@ use mathlib.Core.Logic.{inr}
 use mathlib.Core.Bool.{true, false}
 use mathlib.Core.List.{List}
 use lib.IntN.{ℤ}
-use Rattle.book.proofs.AnyCharts.{AreBytes}
+use Rattle.book.specs.Numbers.{AreBytes}
 use Rattle.state.specs.declared.ram.Fuse.{Fuse}
 use Rattle.state.specs.World.{World, rightLengths}
 use Rattle.state.specs.Answers.{written, HasCase}

@@ -11,7 +11,7 @@ use lib.Dec.{eqb, ltb}
 use Rattle.book.specs.Writes.{noWrites}
 use Rattle.book.specs.Limits.{cellLimit, pageLimit}
 use Rattle.book.specs.Book as book
-use Rattle.book.proofs.AnyCharts.{AreBytes}
+use Rattle.book.specs.Numbers.{AreBytes}
 use Rattle.state.specs.declared.answers.Answer.{Answer}
 use Rattle.state.specs.declared.ram.Fuse.{Fuse}
 use Rattle.state.specs.Answers.{numberAndValue, rowsAndPages}

@@ -1,13 +1,13 @@
-// The calls for C, a function each. Each is lent five arrays of RAM (head, visits, scopes, tail and copy), which it works on where they lie, the stored log and the
-// stored charts; an array crosses as a pointer, a slice as a pointer and a length.
+// The calls for C, a function each, and the forward part of an opening for one page. Each call is lent five arrays of RAM (head, visits, scopes, tail and copy), which
+// it works on where they lie, the stored log and the stored charts; an array crosses as a pointer, a slice as a pointer and a length.
 mod head; // where the journal stands and the counters, in eight numbers
-mod opening; // format and open on the arrays
+mod opening; // format and open on the arrays, and a page alone
 mod packed; // the answer in one number
 mod run; // the calls of an open store on the arrays
 
 ghost use Rattle.book.specs.Calls.{Call};
 ghost use Rattle.embed_model.specs.Arrays.{arrays};
-ghost use Rattle.embed_model.specs.Called.{FormatsOfC, OpensOfC, CallsOfC};
+ghost use Rattle.embed_model.specs.Called.{FormatsOfC, OpensOfC, CallsOfC, RedoesOfC};
 use head::HEAD_LENGTH;
 use rows::limits::CHARTS_LENGTH;
 use rows::limits::TAIL_LENGTH;
@@ -234,4 +234,12 @@ pub extern "C" fn chart_read_on(
         (arrays (now (head .exit)) (now (visits .exit)) (now (scopes .exit)) (now (tail .exit)) (now (copy .exit)) (now (log .exit)) (now (charts .exit))) ⌝ }
 {
     run::read(head, visits, scopes, tail, copy, log, charts, cell)
+}
+
+// Lent the log and one page's bytes alone, with its number: no call of a session.
+#[no_mangle]
+pub extern "C" fn chart_redo_page(log: &[u8], page: &mut [u8], number: u8) -> u64
+    ensures { λ r. ⌜ RedoesOfC (now (log .entry)) number (now (page .entry)) r (now (page .exit)) ⌝ }
+{
+    opening::redo_page(log, page, number)
 }

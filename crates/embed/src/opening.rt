@@ -1,9 +1,10 @@
-// Format and open on the arrays, lent as slices. Neither takes anything from the arrays of RAM.
+// Format and open on the arrays, lent as slices; neither takes anything from the arrays of RAM. And the forward part for one page, which is lent none.
 ghost use Rattle.embed_model.specs.Arrays.{arrays, RamLengths};
-ghost use Rattle.embed_model.specs.Called.{FormatsOfC, OpensOfC};
+ghost use Rattle.embed_model.specs.Called.{FormatsOfC, OpensOfC, RedoesOfC};
 use crate::head::finish;
 use crate::packed::packed;
 use journal::lengths::stored_fit;
+use recovery::page_alone::redo_page_alone;
 use state::answers::Answer;
 use state::answers::no_writes;
 use state::answers::number_of;
@@ -58,4 +59,10 @@ pub(crate) fn open(
     let f = fuse_of_number(fuse);
     let r = recovery::open::open(f, log, charts, copy, tail, visits, scopes);
     finish(head, r)
+}
+
+pub(crate) fn redo_page(log: &[u8], page: &mut [u8], number: u8) -> u64
+    ensures { λ r. ⌜ RedoesOfC (now (log .entry)) number (now (page .entry)) r (now (page .exit)) ⌝ }
+{
+    packed(redo_page_alone(log, page, number))
 }

@@ -4,5 +4,6 @@ pub mod backward; // open changes fall, and each active visit ends
 pub mod format; // charts from the values of the cells, and an empty log
 pub mod look; // rows of the log looked up
 pub mod open; // an opening from its checks to what it leaves
+pub mod page_alone; // the forward part for one page, public
 pub mod pages; // the check of the pages, and the forward part
 pub mod scan; // the check of the log

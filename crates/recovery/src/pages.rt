@@ -137,8 +137,8 @@ fn redo_rows(log: &[u8], from: usize, rows: usize, page: &mut [u8], p: usize)
     }
 }
 
-// The rows above the page's mark.
-fn redo_page(log: &[u8], rows: usize, page: &mut [u8], p: usize)
+// The rows above the page's mark: the forward part of an opening for one page, from that page's bytes alone.
+pub(crate) fn redo_page(log: &[u8], rows: usize, page: &mut [u8], p: usize)
     requires { ⌜ Rows (length (now log)) rows ⌝ }
     requires { ⌜ length (now page) ≡ pageLength ⌝ }
     requires { ⌜ p < pageLimit ⌝ }

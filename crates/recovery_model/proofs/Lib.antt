@@ -1,9 +1,12 @@
 pub mod LogRows
 pub mod ScanMeans
 pub mod PagesMean
+pub mod RedoneBytes
 pub mod RedoMeans
+pub mod PageAlone
 pub mod PageOrder
 pub mod BackwardMeans
 pub mod Settled
 pub mod Post
+pub mod ForwardByPages
 pub mod Formats

@@ -1,94 +1,139 @@
--- The order of the pages does not matter: redone where they stand in any order, and any of them more than once, they are the copy (`any-order`).
+-- The order of the pages does not matter: redone where they stand in any order, and any of them more than once, they give the same charts (`any-order`).
 use Prim.Native.Nat.{ℕ, _+_, _*_, _<_}
 use native.Mathlib.Omega.{arith}
-use mathlib.Core.Path.{_≡_, refl, ap, sym, _∙_, subst}
-use mathlib.Core.Bool.{Bool, true, false, cond, _||_}
-use mathlib.Core.List.{List, [], _∷_, _++_, append-assoc}
-use lib.ListN.{length, take, drop}
-use lib.Seq.{drop-drop}
-use lib.Dec.{eqb}
-use borrow.Author.Tests.{eqb-true, eq-eqb}
-use Rattle.book.specs.Lists.{foldl, member, join}
-use Rattle.book.specs.Rows.{Row}
-use Rattle.book.specs.Rules.{allowedLog}
-use Rattle.book.specs.LogBytes.{logBytes}
-use Rattle.book.specs.Pages.{Page, pageBytes, chartBytes, pageAt, pageOf, redone}
-use Rattle.book.specs.Opening.{badPage}
-use Rattle.book.proofs.Lists.{or-l, or-r}
-use Rattle.book.proofs.Blocks.{blocks, tabulate-same}
-use Rattle.book.proofs.Pages.{SamePage, chart-same, page-at}
-use Rattle.book.proofs.Flush.{setAt, set-page}
-use Rattle.book.proofs.AnyCharts.{AreBytes, page-exact, passed, part-bytes}
-use Rattle.journal.specs.Writes.{putPage}
-use Rattle.recovery_model.specs.Charts.{redoPage, redoCharts}
-use Rattle.recovery_model.proofs.RedoMeans.{page-redone-by, redone-again, page-passes, page-length, charts-redone-by}
+use native.Mathlib.Nat.{zero-add}
+use mathlib.Core.Path.{_≡_, refl, ap, sym, _∙_}
+use mathlib.Core.Bool.{Bool, true, false, cond, not, _&&_, _||_}
+use mathlib.Core.List.{List, [], _∷_, _++_}
+use lib.ListN.{length, take, drop, replicate, length-append, length-drop, length-replicate}
+use lib.Seq.{length-take-le, take-append-le}
+use lib.IntN.{pos}
+use lib.Dec.{eqb, ltb}
+use borrow.Author.Tests.{eq-eqb}
+use Rattle.book.specs.Lists.{foldl, member, tabulate, join}
+use Rattle.book.specs.Book.{done, refusedBy}
+use Rattle.book.specs.Numbers.{AreBytes}
+use Rattle.book.specs.Pages.{pageAt}
+use Rattle.book.proofs.Lists.{clash, or-l, or-r}
+use Rattle.book.proofs.Blocks.{blocks, tabulate-same, block-at, block-set}
+use Rattle.book.proofs.AnyCharts.{part-bytes}
+use Rattle.state.specs.Contracts.{withPage}
+use Rattle.recovery_model.specs.PageAlone.{rowsIn, redoneBytes, PageRedone, redoneAlone, withRedone, AnyOrder}
+use Rattle.recovery_model.proofs.RedoneBytes.{redone-long, redone-twice}
+use Rattle.recovery_model.proofs.PageAlone.{few-in-log}
 
--- page p of the charts is redone where it stands
-abbrev pub redoneAt : List ℕ → ℕ → List ℕ → ℕ → List ℕ
-redoneAt log rows charts p = putPage charts p (redoPage log rows p (pageAt charts p))
+-- ── Pages changed by a function that a second time changes nothing more ───────────────────────────────────────────────
 
-put-page : (f : ℕ → Page) (p : ℕ) (g : Page) → p < 32 → putPage (chartBytes f) p (pageBytes g) ≡ chartBytes (setAt p g f)
-put-page f p g h =
-    ap (λ (rest : List ℕ). take (32 * p) (chartBytes f) ++ (pageBytes g ++ rest)) (drop-drop 32 (32 * p) (chartBytes f)) ∙
-    sym (append-assoc (take (32 * p) (chartBytes f)) (pageBytes g) (drop (32 * p + 32) (chartBytes f))) ∙ set-page f p g h
-
-module _ (charts : List ℕ) (long : length charts ≡ 1024) (bytes : AreBytes charts) (rs : List Row) (al : allowedLog rs ≡ true)
-    (good : badPage rs charts ≡ 32) where
-  -- page p after its rows
-  abbrev new : ℕ → Page
-  new p = redone rs p (pageAt charts p)
-
+module _ (redo : ℕ → List ℕ → List ℕ) (old : ℕ → List ℕ) (long : (p : ℕ) → length (old p) ≡ 32)
+    (same-long : (p : ℕ) (bs : List ℕ) → length bs ≡ 32 → length (redo p bs) ≡ 32)
+    (twice : (p : ℕ) → p < 32 → redo p (redo p (old p)) ≡ redo p (old p)) where
   -- the pages of which some are done
-  abbrev partly : (ℕ → Bool) → ℕ → Page
-  partly done p = cond (done p) (new p) (pageOf (pageAt charts p))
+  abbrev partly : (ℕ → Bool) → ℕ → List ℕ
+  partly done p = cond (done p) (redo p (old p)) (old p)
 
-  page-is : (p : ℕ) → p < 32 → pageAt charts p ≡ pageBytes (pageOf (pageAt charts p))
-  page-is p h =
-      page-exact (pageAt charts p) (page-length charts long bytes rs al good p h) (part-bytes charts bytes (32 * p) 32)
-      (passed rs p (pageAt charts p) (page-passes charts long bytes rs al good p h) .zeros)
+  abbrev joined : (ℕ → Bool) → List ℕ
+  joined done = join (tabulate 32 0 (partly done))
 
-  charts-are : charts ≡ chartBytes (λ p. pageOf (pageAt charts p))
-  unfolding chartBytes
-  charts-are = sym (blocks 32 32 0 charts long) ∙ ap join (tabulate-same 32 0 (pageAt charts) _ (λ p a b. page-is p (omega arith)))
+  -- page p of the charts is done where it stands
+  abbrev step : List ℕ → ℕ → List ℕ
+  step cs p = withPage p (redo p (pageAt cs p)) cs
+
+  partly-long : (done : ℕ → Bool) (p : ℕ) → length (partly done p) ≡ 32
+  partly-long done p = go (done p)
+    where
+      go : (t : Bool) → length (cond t (redo p (old p)) (old p)) ≡ 32
+      go true = same-long p (old p) (long p)
+      go false = long p
 
   -- done before or not, it becomes the same
-  page-becomes : (p : ℕ) → p < 32 → (t : Bool) → redoPage (logBytes rs) (length rs) p (pageBytes (cond t (new p) (pageOf (pageAt charts p)))) ≡ pageBytes (new p)
-  page-becomes p h true =
-      redone-again rs al p (pageAt charts p) (page-length charts long bytes rs al good p h) (part-bytes charts bytes (32 * p) 32)
-      (page-passes charts long bytes rs al good p h)
-  page-becomes p h false =
-      ap (redoPage (logBytes rs) (length rs) p) (sym (page-is p h)) ∙
-      page-redone-by rs al p (pageAt charts p) (page-length charts long bytes rs al good p h) (part-bytes charts bytes (32 * p) 32)
-      (page-passes charts long bytes rs al good p h)
+  page-becomes : (p : ℕ) → p < 32 → (t : Bool) → redo p (cond t (redo p (old p)) (old p)) ≡ redo p (old p)
+  page-becomes p h true = twice p h
+  page-becomes p h false = refl
 
-  one-done : (done : ℕ → Bool) (p : ℕ) → p < 32
-      → redoneAt (logBytes rs) (length rs) (chartBytes (partly done)) p ≡ chartBytes (partly (λ q. eqb q p || done q))
+  one-done : (done : ℕ → Bool) (p : ℕ) → p < 32 → step (joined done) p ≡ joined (λ q. eqb q p || done q)
   one-done done p h =
-      ap (λ (bs : List ℕ). putPage (chartBytes (partly done)) p (redoPage (logBytes rs) (length rs) p bs)) (page-at (partly done) p h) ∙
-      ap (putPage (chartBytes (partly done)) p) (page-becomes p h (done p)) ∙
-      put-page (partly done) p (new p) h ∙
-      chart-same (setAt p (new p) (partly done)) (partly (λ q. eqb q p || done q)) (λ q k. same q (eqb q p) refl)
+      let all = joined done in
+      ap (λ (bs : List ℕ). withPage p (redo p bs) all)
+      (block-at 32 (partly done) (partly-long done) 32 0 p h ∙ ap (partly done) (zero-add p)) ∙
+      ap (λ (bs : List ℕ). withPage p bs all) (page-becomes p h (done p) ∙ sym there) ∙
+      block-set 32 (partly done) (partly-long done) (partly (λ q. eqb q p || done q)) 32 0 p h
+      (λ q e. ap (λ (t : Bool). cond (t || done q) (redo q (old q)) (old q)) (sym (ap (eqb q) (sym (zero-add p)) ∙ e)))
     where
-      same : (q : ℕ) (t : Bool) → eqb q p ≡ t → SamePage (cond t (new p) (partly done q)) (cond (t || done q) (new q) (pageOf (pageAt charts q)))
-      same q true e = subst (λ (k : ℕ). SamePage (new k) (new q)) (eqb-true q p e) (record { mark = refl; cells = λ j h. refl })
-      same q false e = record { mark = refl; cells = λ j h. refl }
+      there : partly (λ q. eqb q p || done q) (0 + p) ≡ redo p (old p)
+      there = rw (zero-add p, eq-eqb p p refl)
 
   all-done : (ps : List ℕ) (done : ℕ → Bool) → ((p : ℕ) → member p ps ≡ true → p < 32) → ((p : ℕ) → p < 32 → (member p ps || done p) ≡ true)
-      → foldl (redoneAt (logBytes rs) (length rs)) (chartBytes (partly done)) ps ≡ chartBytes new
-  all-done [] done within each = chart-same (partly done) new (λ p h. subst (λ (t : Bool). SamePage (cond t (new p) (pageOf (pageAt charts p))) (new p))
-      (sym (each p h)) (record { mark = refl; cells = λ j k. refl }))
+      → foldl step (joined done) ps ≡ join (tabulate 32 0 (λ p. redo p (old p)))
+  all-done [] done within each =
+      ap join (tabulate-same 32 0 _ _ (λ p a b. ap (λ (t : Bool). cond t (redo p (old p)) (old p)) (each p (omega arith))))
   all-done (p ∷ ps) done within each =
-      ap (λ (cs : List ℕ). foldl (redoneAt (logBytes rs) (length rs)) cs ps) (one-done done p (within p (or-l _ _ (eq-eqb p p refl)))) ∙
+      ap (λ (cs : List ℕ). foldl step cs ps) (one-done done p (within p (or-l _ _ (eq-eqb p p refl)))) ∙
       all-done ps (λ q. eqb q p || done q) (λ q m. within q (or-r (eqb q p) _ m)) (λ q h. bools (eqb q p) (member q ps) (done q) (each q h))
     where
       bools : (a b c : Bool) → (a || b || c) ≡ true → (b || (a || c)) ≡ true
       bools true b c e = or-r b true refl
       bools false b c e = e
 
-  -- each page is named, and no other
-  pub any-order : (ps : List ℕ) → ((p : ℕ) → p < 32 → member p ps ≡ true) → ((p : ℕ) → member p ps ≡ true → p < 32)
-      → foldl (redoneAt (logBytes rs) (length rs)) charts ps ≡ redoCharts (logBytes rs) (length rs) charts
-  any-order ps each within =
-      ap (λ (cs : List ℕ). foldl (redoneAt (logBytes rs) (length rs)) cs ps) charts-are ∙
-      all-done ps (λ p. false) within (λ p h. or-l _ _ (each p h)) ∙
-      sym (charts-redone-by charts long bytes rs al good)
+-- ── Pages redone alone ────────────────────────────────────────────────────────────────────────────────────────────────
+
+module _ (log : List ℕ) where
+  -- page p redone alone
+  abbrev alone : ℕ → List ℕ → List ℕ
+  alone p bs = redoneAlone log p bs .page
+
+  -- by whether the lengths and the number are right
+  abbrev aloneBy : Bool → Bool → ℕ → List ℕ → List ℕ
+  aloneBy fit some p bs = cond (not fit) bs (cond (not some) bs (redoneBytes (rowsIn log) p bs))
+
+  alone-is : (p : ℕ) (bs : List ℕ) → length bs ≡ 32 → alone p bs ≡ aloneBy (eqb (length log) 65536) (ltb p 32) p bs
+  unfolding redoneAlone
+  alone-is p bs long = go (eqb (length log) 65536) (eqb (length bs) 32) (ltb p 32) (eq-eqb (length bs) 32 long)
+    where
+      go : (s b t : Bool) → b ≡ true → cond {A = PageRedone} (not (s && b)) (record { answer = refusedBy 1; page = bs })
+          (cond (not t) (record { answer = refusedBy 14; page = bs }) (record { answer = done (pos 0); page = redoneBytes (rowsIn log) p bs })) .page
+          ≡ aloneBy s t p bs
+      go true true true e = refl
+      go true true false e = refl
+      go true false t e = clash false e refl
+      go false b t e = refl
+
+  alone-long : (p : ℕ) (bs : List ℕ) → length bs ≡ 32 → length (alone p bs) ≡ 32
+  alone-long p bs long = ap length (alone-is p bs long) ∙ go (eqb (length log) 65536) (ltb p 32)
+    where
+      go : (s t : Bool) → length (aloneBy s t p bs) ≡ 32
+      go true true = redone-long (rowsIn log) p bs
+      go true false = long
+      go false t = long
+
+  alone-twice : (p : ℕ) (bs : List ℕ) → length bs ≡ 32 → AreBytes bs → alone p (alone p bs) ≡ alone p bs
+  alone-twice p bs long bytes =
+      let once = alone-is p bs long in
+      alone-is p (alone p bs) (alone-long p bs long) ∙ ap (aloneBy (eqb (length log) 65536) (ltb p 32) p) once ∙ go (eqb (length log) 65536) (ltb p 32) ∙ sym once
+    where
+      go : (s t : Bool) → aloneBy s t p (aloneBy s t p bs) ≡ aloneBy s t p bs
+      go true true = redone-twice (rowsIn log) p bs bytes (few-in-log log)
+      go true false = refl
+      go false t = refl
+
+-- the bytes of page p; of no such page any 32 will do
+abbrev pageOr : List ℕ → ℕ → List ℕ
+pageOr charts p = take 32 (drop (32 * p) charts ++ replicate 32 0)
+
+pub any-order : AnyOrder
+unfolding AnyOrder
+any-order log charts long bytes ps all =
+    ap (λ (cs : List ℕ). foldl (withRedone log) cs ps) (sym (blocks 32 32 0 charts long) ∙ ap join (tabulate-same 32 0 _ _ (λ p a b. sym (page-is p (omega arith))))) ∙
+    all-done (alone log) (pageOr charts) or-long (alone-long log) (λ p h. twice p h) ps (λ p. false) (λ p m. all p .0 m) (λ p h. or-l _ _ (all p .1 h)) ∙
+    ap join (tabulate-same 32 0 _ _ (λ p a b. ap (alone log p) (page-is p (omega arith))))
+  where
+    page-is : (p : ℕ) → p < 32 → pageOr charts p ≡ pageAt charts p
+    page-is p h = let d = length-drop (32 * p) charts in take-append-le 32 (drop (32 * p) charts) (replicate 32 0) (omega arith)
+
+    or-long : (p : ℕ) → length (pageOr charts p) ≡ 32
+    or-long p =
+        let a = length-append (drop (32 * p) charts) (replicate 32 0) in
+        let b = length-replicate {A = ℕ} 32 0 in
+        length-take-le 32 (drop (32 * p) charts ++ replicate 32 0) (omega arith)
+
+    twice : (p : ℕ) → p < 32 → alone log p (alone log p (pageOr charts p)) ≡ alone log p (pageOr charts p)
+    twice p h = rw (page-is p h) (alone-twice log p (pageAt charts p) (rw (page-is p h) at (or-long p)) (part-bytes charts bytes (32 * p) 32))

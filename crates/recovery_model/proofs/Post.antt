@@ -14,6 +14,7 @@ use Rattle.book.specs.Ledger.{ledger}
 use Rattle.book.specs.Rules.{allowedLog}
 use Rattle.book.specs.Book.{reopen}
 use Rattle.book.specs.Reading.{Demand2Reading}
+use Rattle.book.specs.Numbers.{AreBytes}
 use Rattle.book.specs.LogBytes.{Log, good, bad, logBytes, readLog}
 use Rattle.book.specs.Pages.{chartBytes, pageAt, pageAfter, isPage, redone}
 use Rattle.book.specs.Opening.{rejected, recovered, badPage, checked, openBytes}
@@ -23,7 +24,7 @@ use Rattle.book.proofs.LogBytes.{log-exact}
 use Rattle.book.proofs.Reading.{demand-2-reading}
 use Rattle.book.proofs.Blocks.{first-within}
 use Rattle.book.proofs.Pages.{chartsAsOf, charts-redone}
-use Rattle.book.proofs.AnyCharts.{AreBytes, marksOf, baseOf, marked-any, base-bounded, charts-any}
+use Rattle.book.proofs.AnyCharts.{marksOf, baseOf, marked-any, base-bounded, charts-any}
 use Rattle.book.proofs.OpenBytes.{open-bytes}
 use Rattle.book.proofs.ReopenedBytes.{open-passed}
 use Rattle.state.specs.declared.ram.Fuse.{Fuse}

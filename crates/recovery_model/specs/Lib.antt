@@ -4,4 +4,6 @@ pub mod Charts
 pub mod Forward
 pub mod Backward
 pub mod Openings
+pub mod PageAlone
+pub mod ForwardByPages
 pub mod Answering

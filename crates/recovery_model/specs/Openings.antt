@@ -50,10 +50,13 @@ settledOpening rows begun m charts =
     }) u)
     (answeredWith 5 (pos 0) (cleared (j .log) charts) u)
 
+-- of a log that passed, from this copy on
+abbrev pub backwardFrom : Fuse → List ℕ → List ℕ → Scanned → List ℕ → Answered
+backwardFrom f log charts s copy = settledOpening (s .rows) (s .index .tables .begun) (backward f (s .rows) (s .index) log copy) charts
+
 -- of a log that passed and charts that passed
 abbrev pub recoveredBy : Fuse → List ℕ → List ℕ → Scanned → Answered
-recoveredBy f log charts s =
-    settledOpening (s .rows) (s .index .tables .begun) (backward f (s .rows) (s .index) log (redoCharts log (s .rows) charts)) charts
+recoveredBy f log charts s = backwardFrom f log charts s (redoCharts log (s .rows) charts)
 
 abbrev pub checkedBy : Fuse → List ℕ → List ℕ → Scanned → Answered
 checkedBy f log charts s =

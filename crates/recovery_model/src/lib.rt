@@ -1,6 +1,7 @@
 // Format and the opening, without the functions that carry them out: the types, the definitions of what they check, give back and leave (`specs/`), and
-// the theorems that a format is the contract's (`proofs/Formats`) and an opening of any bytes the book's (`proofs/Post`). It stands apart from crate
-// `recovery` so that a wrong definition is refused in seconds, with no code to be proved.
+// the theorems that a format is the contract's (`proofs/Formats`), an opening of any bytes the book's (`proofs/Post`), and its forward part the pages redone
+// alone in any order (`proofs/ForwardByPages`). It stands apart from crate `recovery` so that a wrong definition is refused in seconds, with no code to be
+// proved.
 use tables_model::Counts;
 
 // Why a row of a log is not allowed: its bytes are no row's, a row rule forbids it, or a limit does.

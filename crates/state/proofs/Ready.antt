@@ -14,6 +14,7 @@ use Rattle.book.specs.Rules.{allowedLog}
 use Rattle.book.specs.Cells.{lastOn}
 use Rattle.book.specs.Power.{Book, Fuse}
 use Rattle.book.specs.Book.{reopened, reopen}
+use Rattle.book.specs.Numbers.{AreBytes}
 use Rattle.book.specs.LogBytes.{Log, good, bad, logBytes, readLog}
 use Rattle.book.specs.Reading.{Demand2Reading}
 use Rattle.book.specs.Pages.{pageAt, isPage}
@@ -27,7 +28,7 @@ use Rattle.book.proofs.LogBytes.{log-exact}
 use Rattle.book.proofs.Reading.{demand-2-reading}
 use Rattle.book.proofs.Pages.{Bounded, abs-within, chart-same, asOf}
 use Rattle.book.proofs.Flush.{mark-le}
-use Rattle.book.proofs.AnyCharts.{AreBytes, marksOf, baseOf, marked-any, base-bounded, charts-any}
+use Rattle.book.proofs.AnyCharts.{marksOf, baseOf, marked-any, base-bounded, charts-any}
 use Rattle.state.specs.World.{World, rightLengths, worldOf, Charts, Represents}
 use Rattle.state.specs.Contracts.{Answered, OpenPost, opens}
 use Rattle.book.proofs.Blocks.{first-within}

@@ -1,5 +1,5 @@
-//! The refusals of 01's table, with the line that request L2 of 02 adds to it: each by itself, and two at
-//! once.
+//! The refusals of 01's table, with the line that request L2 of 02 adds to it, and those of a page redone alone
+//! (L3): each by itself, and two at once.
 
 use super::Table;
 
@@ -171,6 +171,7 @@ pub const ANSWERS: Table = Table {
                 ("15 for a change of code 9", 37),
             ],
         ),
+        ("redo page", &[("done", 330), ("1 log", 370), ("1 page", 220), ("14", 240)]),
     ],
 };
 
@@ -223,5 +224,6 @@ pub const PAIRS: Table = Table {
         ("force", &[("1 and 5", 270)]),
         ("flush", &[("1 and 5", 290), ("5 and 14", 190)]),
         ("read", &[("1 and 5", 260), ("5 and 10", 49)]),
+        ("redo page", &[("1 and 14", 240)]),
     ],
 };

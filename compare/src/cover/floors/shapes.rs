@@ -212,6 +212,28 @@ pub const SHAPES: Table = Table {
             ],
         ),
         (
+            "pages redone alone",
+            &[
+                ("all pages alone, the copy of the paper's opening", 1_100),
+                ("all pages alone, the copy of the opening of fast", 1_100),
+                ("all pages alone by fast", 1_100),
+                ("all pages alone by the function for C", 1_100),
+                ("all pages alone, each once", 280),
+                ("all pages alone, some again", 850),
+                ("some pages alone", 150),
+                ("pages alone of a full log", 1),
+                ("pages alone of an empty log", 52),
+                ("pages alone of a store that an opening refuses", 390),
+                ("page alone again", 12_000),
+                ("page alone after a later one", 18_000),
+                ("page alone with rows above its mark", 3_000),
+                ("page alone whose mark is a row that moved a cell", 1_200),
+                ("page alone with such a mark and rows above it", 570),
+                ("page alone with rows of other pages above its mark", 28_000),
+                ("page alone that the opening goes on to change", 1_500),
+            ],
+        ),
+        (
             "logs refused",
             &[
                 ("log refused at a begin row", 1_600),
