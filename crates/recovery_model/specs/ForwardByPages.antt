@@ -8,18 +8,28 @@ use Rattle.book.specs.Limits.{pageLimit}
 use Rattle.book.specs.Rows.{Row}
 use Rattle.book.specs.Numbers.{AreBytes}
 use Rattle.book.specs.LogBytes.{good, readLog}
+use Rattle.book.specs.Pages.{chartBytes, pageAt, redone}
 use Rattle.book.specs.Opening.{badPage}
 use Rattle.state.specs.declared.ram.Fuse.{Fuse}
 use Rattle.state.specs.World.{World, rightLengths, allowance}
 use Rattle.state.specs.Contracts.{opens}
 use Rattle.recovery_model.specs.Scan.{scanned}
+use Rattle.recovery_model.specs.Charts.{redoCharts}
 use Rattle.recovery_model.specs.Openings.{noIndex, backwardFrom}
 use Rattle.recovery_model.specs.PageAlone.{withRedone, AllPages}
+
+-- the opening of this world, whose log is read as these rows, goes backward from this copy
+pub record BackwardFrom (f : Fuse) (w : World) (rs : List Row) (copy : List ℕ) : Type 0 where
+  -- 01, open, forward: the book's pages
+  pub pages : copy ≡ chartBytes (λ p. redone rs p (pageAt (w .charts) p))
+  -- what the opening's own loop over the pages gives
+  pub forward : copy ≡ redoCharts (w .log) (scanned (w .log) noIndex .rows) (w .charts)
+  -- what it hands to its backward part
+  pub backward : opens (allowance f) w ≡ backwardFrom f (w .log) (w .charts) (scanned (w .log) noIndex) copy
 
 -- every opening whose checks pass goes backward from the copy that the 32 pages give, each redone alone, in any order and any of them more than once
 unfoldable pub AnyOrderAlone : Type 0
 AnyOrderAlone =
     (f : Fuse) (w : World) → rightLengths w ≡ true → AreBytes (w .charts) →
     (rs : List Row) → readLog (w .log) ≡ good rs → badPage rs (w .charts) ≡ pageLimit →
-    (ps : List ℕ) → AllPages ps →
-    opens (allowance f) w ≡ backwardFrom f (w .log) (w .charts) (scanned (w .log) noIndex) (foldl (withRedone (w .log)) (w .charts) ps)
+    (ps : List ℕ) → AllPages ps → BackwardFrom f w rs (foldl (withRedone (w .log)) (w .charts) ps)
