@@ -242,7 +242,7 @@ static inline chart_answer chart_read(const chart_store *s, uint8_t cell) { retu
 
 #undef CHART_OF
 
-/* ---- A page by itself ---- */
+/* ---- A page alone ---- */
 
 /* The forward part of an opening for one page, by the log and that page's bytes alone: each change or undo row of the page above its mark is applied, and the
  * last one becomes the mark. It is no call of a store: it is lent no RAM, stores nothing, and may come at any time between two calls.

@@ -60,7 +60,7 @@ static void expect_unchanged(const char *what, chart_answer a, int number, int32
     }
 }
 
-/* A page by itself, by the stored log. */
+/* A page alone, by the stored log. */
 static chart_answer redo(uint8_t *page, uint64_t length, uint8_t number) {
     return chart_redo_page(stored_log, sizeof stored_log, page, length, number);
 }
@@ -88,13 +88,13 @@ int main(void) {
     expect("visit 2 commits: cell 7 lasts", chart_commit(s, 2), CHART_DONE, 6);
     /* Page 1 alone, as an opening would have it before it undoes cell 8: the page that the flush then stores. */
     memcpy(page, stored_page, sizeof page);
-    expect_unchanged("redo page 1 by itself", redo(page, sizeof page, 1), CHART_DONE, 0);
+    expect_unchanged("redo page 1 alone", redo(page, sizeof page, 1), CHART_DONE, 0);
     expect_unchanged("once more: no row is above its mark", redo(page, sizeof page, 1), CHART_DONE, 0);
     expect_unchanged("redo page 32", redo(page, sizeof page, CHART_PAGES), CHART_NO_SUCH_PAGE, 0);
     expect_unchanged("redo a page one byte short", redo(page, sizeof page - 1, 1), CHART_WRONG_LENGTH, 0);
     expect("flush the page of cell 8", chart_flush(s, 8 / CHART_CELLS_PER_PAGE), CHART_DONE, 0);
     if (memcmp(page, stored_page, sizeof page) != 0) {
-        puts("   <- the page redone by itself is not the page that was stored");
+        puts("   <- the page redone alone is not the page that was stored");
         failures++;
     }
     expect_stored(6, 1); /* the commit stored rows 1 to 6, the flush its page: the rows of the page were stored */

@@ -76,7 +76,7 @@ pub fn redo(charts: &mut [u8], rows: &Rows) {
     }
 }
 
-/// Applies the rows above its mark to one page, lent by itself: it stands where page 0 of charts does. The
+/// Applies the rows above its mark to one page, lent alone: it stands where page 0 of charts does. The
 /// log may be any bytes, so a row has the number of its place.
 pub fn redo_alone(page: &mut [u8], number: usize, log: &[u8]) {
     let mark = usize::from(get_mark(page, 0));
