@@ -7,7 +7,8 @@ mod run; // the calls of an open store on the arrays
 
 ghost use Rattle.book.specs.Calls.{Call};
 ghost use Rattle.embed_model.specs.Arrays.{arrays};
-ghost use Rattle.embed_model.specs.Called.{FormatsOfC, OpensOfC, CallsOfC, RedoesOfC};
+ghost use Rattle.embed_model.specs.Called.{FormatsOfC, OpensOfC, CallsOfC};
+ghost use Rattle.embed_model.specs.PageOfC.{RedoesOfC};
 use head::HEAD_LENGTH;
 use rows::limits::CHARTS_LENGTH;
 use rows::limits::TAIL_LENGTH;

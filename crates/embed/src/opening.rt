@@ -1,6 +1,7 @@
 // Format and open on the arrays, lent as slices; neither takes anything from the arrays of RAM. And the forward part for one page, which is lent none.
 ghost use Rattle.embed_model.specs.Arrays.{arrays, RamLengths};
-ghost use Rattle.embed_model.specs.Called.{FormatsOfC, OpensOfC, RedoesOfC};
+ghost use Rattle.embed_model.specs.Called.{FormatsOfC, OpensOfC};
+ghost use Rattle.embed_model.specs.PageOfC.{RedoesOfC};
 use crate::head::finish;
 use crate::packed::packed;
 use journal::lengths::stored_fit;

@@ -8,10 +8,8 @@ use mathlib.Core.List.{List}
 use lib.IntN.{ℤ}
 use Rattle.book.specs.Calls.{Call}
 use Rattle.book.specs.Book.{answer}
-use Rattle.book.specs.Writes.{noWrites}
 use Rattle.state.specs.World.{isOpenPhase, works, fuseOfNumber}
 use Rattle.state.specs.Contracts.{Answered, FormatPost, OpenPost, CallPost}
-use Rattle.recovery_model.specs.PageAlone.{redoneAlone}
 use Rattle.embed_model.specs.Arrays.{Arrays, worldIn, RamLengths, Zero}
 use Rattle.embed_model.specs.Packed.{answerIn, writesIn}
 
@@ -49,8 +47,3 @@ pub record CallsOfC (k : Call) (given : Arrays) (r : ℕ) (leaves : Arrays) : Ty
   -- a call that is done leaves the store open
   pub done : answerIn r .number ≡ 0 → isOpenPhase (worldIn leaves .state .phase) ≡ true
   pub sized : RamLengths leaves
-
--- 02, L3: `chart_redo_page`, lent a log and the bytes of the page of this number. It is no call: it is lent no RAM and stores nothing.
-pub record RedoesOfC (log : List ℕ) (number : ℕ) (given : List ℕ) (r : ℕ) (leaves : List ℕ) : Type 0 where
-  pub does : redoneAlone log number given ≡ record { answer = answerIn r; page = leaves }
-  pub writes : writesIn r ≡ noWrites

@@ -1,6 +1,7 @@
 pub mod Arrays
 pub mod Packed
 pub mod Called
+pub mod PageOfC
 pub mod Host
 pub mod Freedom
 pub mod Demand

@@ -12,21 +12,21 @@ use Rattle.book.specs.Limits.{pageLimit, logLength, chartsLength}
 use Rattle.book.specs.Lists.{foldl, join}
 use Rattle.book.specs.Numbers.{AreBytes}
 use Rattle.book.specs.Rows.{Row}
-use Rattle.book.specs.Pages.{pageBytes, chartBytes, pageAt, isPage, redone}
+use Rattle.book.specs.Pages.{pageAt}
 use Rattle.book.specs.LogBytes.{good, readLog}
 use Rattle.book.specs.Opening.{badPage}
 use Rattle.book.proofs.Lists.{and-l, and-r}
-use Rattle.book.proofs.Blocks.{tabulate-same, first-all}
+use Rattle.book.proofs.Blocks.{tabulate-same}
 use Rattle.book.proofs.LogBytes.{log-exact}
 use Rattle.book.proofs.AnyCharts.{part-bytes}
 use Rattle.recovery_model.specs.Scan.{Scanned, scanned}
 use Rattle.recovery_model.specs.Charts.{badPageBy, redoPage, redoCharts}
 use Rattle.recovery_model.specs.Openings.{noIndex, backwardFrom, opensBy}
-use Rattle.recovery_model.specs.PageAlone.{endOf, PageRedone, redoneAlone, PageAlone, withRedone, AllPages, AnyOrder}
+use Rattle.recovery_model.specs.PageAlone.{endOf, RedoneAlone, redoneAlone, withRedone, AllPages, AnyOrder}
 use Rattle.recovery_model.specs.ForwardByPages.{AnyOrderAlone}
 use Rattle.recovery_model.proofs.ScanMeans.{scan-good}
 use Rattle.recovery_model.proofs.PagesMean.{bad-page-by}
-use Rattle.recovery_model.proofs.PageAlone.{end-of-log, redo-alone, alone-done, page-alone}
+use Rattle.recovery_model.proofs.PageAlone.{end-of-log, redo-alone, alone-done}
 use Rattle.recovery_model.proofs.PageOrder.{any-order}
 use Rattle.recovery_model.proofs.Post.{opens-by}
 
@@ -45,31 +45,19 @@ module _ (log charts : List ℕ) (log-long : length log ≡ logLength) (long : l
 
   page-redone : (p : ℕ) → p < 32 → redoneAlone log p (pageAt charts p) .page ≡ redoPage log (scanned log noIndex .rows) p (pageAt charts p)
   page-redone p h =
-      ap (λ (r : PageRedone). r .page) (alone-done log p (pageAt charts p) log-long (size p h) h) ∙
+      ap (λ (r : RedoneAlone). r .page) (alone-done log p (pageAt charts p) log-long (size p h) h) ∙
       sym (redo-alone log p (pageAt charts p) (size p h) (part-bytes charts bytes (32 * p) 32)) ∙
       ap (λ (n : ℕ). redoPage log n p (pageAt charts p)) end-found
 
   -- the copy that the opening hands to its backward part
-  copy-alone : (ps : List ℕ) → AllPages ps → foldl (withRedone log) charts ps ≡ redoCharts log (scanned log noIndex .rows) charts
+  copy-forward : (ps : List ℕ) → AllPages ps → foldl (withRedone log) charts ps ≡ redoCharts log (scanned log noIndex .rows) charts
   unfolding redoCharts AnyOrder
-  copy-alone ps all = any-order log charts long bytes ps all ∙ ap join (tabulate-same 32 0 _ _ (λ p a b. page-redone p (omega arith)))
+  copy-forward ps all = any-order log charts long bytes ps all ∙ ap join (tabulate-same 32 0 _ _ (λ p a b. page-redone p (omega arith)))
 
-  -- it is the book's, of charts that pass
-  module _ (pass : badPage rs charts ≡ pageLimit) where
-    none-bad : badPageBy log (scanned log noIndex .rows) charts ≡ 32
-    none-bad =
-        let k = log-exact log rs log-long e in
-        ap₂ (λ (l : List ℕ) (n : ℕ). badPageBy l n charts) (k .1) rows-found ∙ bad-page-by rs (k .0) charts ∙ pass
-
-    page-is : (p : ℕ) → p < 32 → redoneAlone log p (pageAt charts p) .page ≡ pageBytes (redone rs p (pageAt charts p))
-    unfolding PageAlone
-    page-is p h =
-        ap (λ (r : PageRedone). r .page)
-        (page-alone log rs log-long e p (pageAt charts p) h (size p h) (first-all 32 0 (λ i. isPage rs i (pageAt charts i)) pass p (omega arith) (omega arith)))
-
-    copy-is : (ps : List ℕ) → AllPages ps → foldl (withRedone log) charts ps ≡ chartBytes (λ p. redone rs p (pageAt charts p))
-    unfolding chartBytes AnyOrder
-    copy-is ps all = any-order log charts long bytes ps all ∙ ap join (tabulate-same 32 0 _ _ (λ p a b. page-is p (omega arith)))
+  none-bad : badPage rs charts ≡ pageLimit → badPageBy log (scanned log noIndex .rows) charts ≡ 32
+  none-bad pass =
+      let k = log-exact log rs log-long e in
+      ap₂ (λ (l : List ℕ) (n : ℕ). badPageBy l n charts) (k .1) rows-found ∙ bad-page-by rs (k .0) charts ∙ pass
 
 pub any-order-alone : AnyOrderAlone
 unfolding AnyOrderAlone opensBy
@@ -80,9 +68,8 @@ any-order-alone f w right bytes rs e pass ps all =
     let long = eqb-true (length (w .charts)) chartsLength charts in
     let s = scanned (w .log) noIndex in
     let none : s .bad ≡ 0 = ap (λ (s : Scanned). s .bad) (scan-good (w .log) rs e) in
-    let copy = copy-alone (w .log) (w .charts) log-long long bytes rs e ps all in
+    let copy = copy-forward (w .log) (w .charts) log-long long bytes rs e ps all in
     record {
-      pages = copy-is (w .log) (w .charts) log-long long bytes rs e pass ps all;
       forward = copy;
       backward =
           sym (opens-by f w bytes) ∙

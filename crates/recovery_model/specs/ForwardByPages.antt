@@ -8,7 +8,6 @@ use Rattle.book.specs.Limits.{pageLimit}
 use Rattle.book.specs.Rows.{Row}
 use Rattle.book.specs.Numbers.{AreBytes}
 use Rattle.book.specs.LogBytes.{good, readLog}
-use Rattle.book.specs.Pages.{chartBytes, pageAt, redone}
 use Rattle.book.specs.Opening.{badPage}
 use Rattle.state.specs.declared.ram.Fuse.{Fuse}
 use Rattle.state.specs.World.{World, rightLengths, allowance}
@@ -18,11 +17,9 @@ use Rattle.recovery_model.specs.Charts.{redoCharts}
 use Rattle.recovery_model.specs.Openings.{noIndex, backwardFrom}
 use Rattle.recovery_model.specs.PageAlone.{withRedone, AllPages}
 
--- the opening of this world, whose log is read as these rows, goes backward from this copy
-pub record BackwardFrom (f : Fuse) (w : World) (rs : List Row) (copy : List ℕ) : Type 0 where
-  -- 01, open, forward: the book's pages
-  pub pages : copy ≡ chartBytes (λ p. redone rs p (pageAt (w .charts) p))
-  -- what the opening's own loop over the pages gives
+-- the opening of this world goes backward from this copy
+pub record GoesBackwardFrom (f : Fuse) (w : World) (copy : List ℕ) : Type 0 where
+  -- what its own loop over the pages gives
   pub forward : copy ≡ redoCharts (w .log) (scanned (w .log) noIndex .rows) (w .charts)
   -- what it hands to its backward part
   pub backward : opens (allowance f) w ≡ backwardFrom f (w .log) (w .charts) (scanned (w .log) noIndex) copy
@@ -32,4 +29,4 @@ unfoldable pub AnyOrderAlone : Type 0
 AnyOrderAlone =
     (f : Fuse) (w : World) → rightLengths w ≡ true → AreBytes (w .charts) →
     (rs : List Row) → readLog (w .log) ≡ good rs → badPage rs (w .charts) ≡ pageLimit →
-    (ps : List ℕ) → AllPages ps → BackwardFrom f w rs (foldl (withRedone (w .log)) (w .charts) ps)
+    (ps : List ℕ) → AllPages ps → GoesBackwardFrom f w (foldl (withRedone (w .log)) (w .charts) ps)

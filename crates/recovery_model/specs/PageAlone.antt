@@ -3,7 +3,6 @@
 use Prim.Native.Nat.{ℕ, _+_, _*_, _<_}
 use mathlib.Core.Bool.{Bool, true, cond, not, _&&_}
 use mathlib.Core.Path.{_≡_}
-use mathlib.Core.Logic.{_↔_}
 use mathlib.Core.List.{List, [], _∷_, map}
 use lib.ListN.{length, getD, take, drop}
 use lib.Seq.{sets}
@@ -18,7 +17,8 @@ use Rattle.book.specs.Book.{done, refusedBy}
 use Rattle.book.specs.Numbers.{AreBytes}
 use Rattle.book.specs.RowBytes.{rowOf}
 use Rattle.book.specs.LogBytes.{good, readLog}
-use Rattle.book.specs.Pages.{Page, pageBytes, pageAt, pageOf, isPage, redone}
+use Rattle.book.specs.Pages.{Page, pageBytes, chartBytes, pageAt, pageOf, isPage, redone}
+use Rattle.book.specs.Opening.{badPage}
 use Rattle.state.specs.declared.answers.Answer.{Answer}
 use Rattle.state.specs.Answers.{numberAndValue}
 use Rattle.state.specs.Contracts.{withPage}
@@ -46,18 +46,18 @@ unfoldable pub redoneBytes : List Row → ℕ → List ℕ → List ℕ
 redoneBytes rs p bs = sets (pageBytes (redoneAbove rs p bs)) 2 (getD bs 2 0 ∷ getD bs 3 0 ∷ [])
 
 -- what is answered, and the page that is left
-pub record PageRedone : Type 0 where
+pub record RedoneAlone : Type 0 where
   pub answer : book.Answer
   pub page : List ℕ
 
 -- by the function's own answer
-abbrev pub pageRedoneAs : Answer → List ℕ → PageRedone
-pageRedoneAs r page = record { answer = numberAndValue r; page = page }
+abbrev pub redoneAs : Answer → List ℕ → RedoneAlone
+redoneAs r page = record { answer = numberAndValue r; page = page }
 
 -- page p, whatever log and bytes are lent: 1 for a length, then 14 for a page above 31, and a refusal leaves the page
-unfoldable pub redoneAlone : List ℕ → ℕ → List ℕ → PageRedone
+unfoldable pub redoneAlone : List ℕ → ℕ → List ℕ → RedoneAlone
 redoneAlone log p bs =
-    let refused : ℕ → PageRedone = λ n. record { answer = refusedBy n; page = bs } in
+    let refused : ℕ → RedoneAlone = λ n. record { answer = refusedBy n; page = bs } in
     cond (not (eqb (length log) logLength && eqb (length bs) pageLength)) (refused 1)
     (cond (not (ltb p pageLimit)) (refused 14)
     (record { answer = done (pos 0); page = redoneBytes (rowsIn log) p bs }))
@@ -73,12 +73,19 @@ PageAlone =
 abbrev pub withRedone : List ℕ → List ℕ → ℕ → List ℕ
 withRedone log charts p = withPage p (redoneAlone log p (pageAt charts p) .page) charts
 
--- the list names each of the 32 pages, any of them more than once, and no other
+-- the list names each of the 32 pages, in any order and any of them more than once
 abbrev pub AllPages : List ℕ → Type 0
-AllPages ps = (p : ℕ) → (member p ps ≡ true) ↔ (p < pageLimit)
+AllPages ps = (p : ℕ) → p < pageLimit → member p ps ≡ true
 
 -- "the 32 pages taken in any order give the same copy": of any log and any charts, that in which each page was redone once
 unfoldable pub AnyOrder : Type 0
 AnyOrder =
     (log charts : List ℕ) → length charts ≡ chartsLength → AreBytes charts → (ps : List ℕ) → AllPages ps →
     foldl (withRedone log) charts ps ≡ join (tabulate pageLimit 0 (λ p. redoneAlone log p (pageAt charts p) .page))
+
+-- and of a log that an opening reads as these rows, beside charts that pass its check, the copy with the book's pages
+unfoldable pub CopyAlone : Type 0
+CopyAlone =
+    (log charts : List ℕ) → length log ≡ logLength → length charts ≡ chartsLength → AreBytes charts →
+    (rs : List Row) → readLog log ≡ good rs → badPage rs charts ≡ pageLimit → (ps : List ℕ) → AllPages ps →
+    foldl (withRedone log) charts ps ≡ chartBytes (λ p. redone rs p (pageAt charts p))

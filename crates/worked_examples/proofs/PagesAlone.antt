@@ -11,7 +11,7 @@ use Rattle.book.specs.Book.{done, refusedBy}
 use Rattle.book.specs.LogBytes.{logBytes}
 use Rattle.book.specs.Pages.{pageBytes}
 use Rattle.book.proofs.WorkedExamples.{computes}
-use Rattle.recovery_model.specs.PageAlone.{endOf, rowsIn, redoneBytes, PageRedone, redoneAlone}
+use Rattle.recovery_model.specs.PageAlone.{endOf, rowsIn, redoneBytes, RedoneAlone, redoneAlone}
 
 -- a page with this mark, these grams in its first cell, and 0 in the others
 abbrev page : ℕ → ℤ → List ℕ
@@ -20,10 +20,10 @@ page n z = pageBytes (record { mark = n; cell = λ j. cond (eqb j 0) z (pos 0) }
 abbrev blank : List ℕ
 blank = page 0 (pos 0)
 
-abbrev leaves : List ℕ → PageRedone
+abbrev leaves : List ℕ → RedoneAlone
 leaves bs = record { answer = done (pos 0); page = bs }
 
-abbrev refuses : ℕ → List ℕ → PageRedone
+abbrev refuses : ℕ → List ℕ → RedoneAlone
 refuses n bs = record { answer = refusedBy n; page = bs }
 
 -- ── 1, 14 ─────────────────────────────────────────────────────────────────────────────────────────────────────────────
@@ -54,7 +54,7 @@ limits = record {
 
 -- ── The rows above the mark ───────────────────────────────────────────────────────────────────────────────────────────
 
--- two changes of cell 0 and one of cell 7, which is on page 1; the first of them is undone
+-- rows 2 and 4 change cell 0, row 3 cell 7, which is on page 1; row 5 undoes row 4
 abbrev log : List ℕ
 log = logBytes (Row.begin 1 ∷ Row.change 1 0 (pos 5) ∷ Row.change 1 7 (pos 70) ∷ Row.change 1 0 (pos 9) ∷ Row.undo 1 0 4 (pos 9) ∷ [])
 

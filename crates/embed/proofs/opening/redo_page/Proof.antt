@@ -7,7 +7,7 @@ use Rattle.embed.proofs.opening.redo_page.Tie as tie
 
 returns : tie.Need-returns
 returns c = record {
-  does = sym (c .before .before .before .redo-page-alone .ensures) ∙
+  does = sym (c .before .before .before .redo-page-alone .ensures .0) ∙
       ap (λ (a : Answer). record { answer = a; page = c .before .before .before .redo-page-alone .last .1 .0 }) (sym (c .packed .ensures .0));
   writes = c .packed .ensures .1;
 }
