@@ -14,12 +14,12 @@
  * What the host sees to
  *
  *   - The pointers are not null, and point to as many bytes as the struct's type and the two lengths say.
- *   - RAM, log, charts and the cells of a format do not overlap.
+ *   - RAM, log, charts, the cells of a format and a page lent alone do not overlap.
  *   - Two calls on the same store do not run at the same time, not even in an interrupt.
  *   - Between two calls it leaves RAM, log and charts alone. If it does not, each call still ends with an answer, but the charts may be wrong.
  *   - The memory of log and charts stores as is said next.
  *
- * Nothing else is asked: a log, charts or cells of another length are refused (CHART_WRONG_LENGTH), and no argument and no contents of RAM, log and charts
+ * Nothing else is asked: a log, charts, cells or a page of another length are refused (CHART_WRONG_LENGTH), and no argument and no contents of RAM, log and charts
  * can make a call trap, run on or write elsewhere. A refused call changes no byte, but for the calls in which the power fails (CHART_CLOSED) and the openings
  * that reject the store (CHART_BAD_ROW, CHART_BAD_PAGE): they leave every byte of RAM 0.
  *
@@ -248,11 +248,13 @@ static inline chart_answer chart_read(const chart_store *s, uint8_t cell) { retu
  * last one becomes the mark. It is no call of a store: it is lent no RAM, stores nothing, and may come at any time between two calls.
  *
  *   log     the stored log, CHART_LOG_LENGTH bytes; it is only read
- *   page    CHART_PAGE_LENGTH bytes of page `number`, as the stored charts have them; they are worked on where they lie, and do not overlap the log
+ *   page    a copy in RAM of the CHART_PAGE_LENGTH bytes that the stored charts have of page `number`; it is worked on where it lies
+ *
+ * Never lend it the stored charts themselves: mark and cells are written one after another, and a power failure between two of them would tear the page.
  *
  * Where chart_open would take log and charts, the page is then as that opening has it before it undoes anything: with the changes that no visit committed.
- * The pages may be taken in any order, and any of them again; a page that was redone does not change any more. All 32 of them give the copy from which the
- * opening goes on:
+ * Rows that wait in RAM are not in the log, and so not in the page. The pages may be taken in any order, and any of them again; a page that was redone does
+ * not change any more by the same log. All 32 of them give the copy from which the opening goes on:
  *
  *     uint8_t copy[CHART_CHARTS_LENGTH];
  *     unsigned p;

@@ -4,7 +4,7 @@ use crate::fast::{self, Fuse, Lent, Phase, Ram};
 use crate::paper::{self, Ledger, Paper, Row};
 use crate::prng::Rng;
 use crate::store::{noise, take_over, with_length};
-use crate::store::{Answer, Buffer, Call, Host, Scope, State, Store, Writes, RIGHT, ROW, ROWS};
+use crate::store::{Answer, Buffer, Call, Host, Scope, State, Store, RIGHT, ROW, ROWS};
 
 impl Paper {
     /// The state of a store that has these rows in log and tail, and so many scopes in use.
@@ -101,8 +101,9 @@ impl Store for Paper {
         Some(Paper::new().answer(outcome))
     }
 
-    fn forward(&self) -> Option<Vec<u8>> {
-        Paper::forward(self).ok().map(|(_, copy)| copy)
+    fn forward(&self) -> Option<Result<Vec<u8>, Answer>> {
+        let forward = Paper::forward(self).map(|(_, copy)| copy);
+        Some(forward.map_err(|refusal| Paper::new().answer(Err(refusal))))
     }
 
     fn copied(&self) -> Box<dyn Store> {
@@ -152,13 +153,13 @@ impl FastStore {
     }
 
     /// Makes one call with the buffers lent as the host was told.
-    fn with_lent(&mut self, call: impl FnOnce(&mut Ram, &mut Lent) -> Answer) -> Answer {
+    fn with_lent<T>(&mut self, call: impl FnOnce(&mut Ram, &mut Lent) -> T) -> T {
         let (ram, table) = (&mut self.ram, &mut self.scopes);
         self.host.lend(|log, charts, copy, entries| {
             let mut scopes = with_length(table, entries);
-            let answer = call(ram, &mut Lent::new(log, charts, copy, &mut scopes));
+            let result = call(ram, &mut Lent::new(log, charts, copy, &mut scopes));
             take_over(table, &scopes);
-            answer
+            result
         })
     }
 }
@@ -268,14 +269,11 @@ impl Store for FastStore {
         Some(fast::redo_page(log, page, number))
     }
 
-    fn forward(&self) -> Option<Vec<u8>> {
+    fn forward(&self) -> Option<Result<Vec<u8>, Answer>> {
         let host = Host { lengths: RIGHT, ..self.host.clone() };
         let mut store = FastStore { host, ..FastStore::new() };
-        let answer = store.with_lent(|ram, lent| match fast::forward(&mut ram.tables, lent) {
-            Ok(_) => Answer { number: 0, value: 0, writes: Writes::NONE },
-            Err(refusal) => refusal,
-        });
-        (answer.number == 0).then_some(store.host.copy)
+        let forward = store.with_lent(|ram, lent| fast::forward(&mut ram.tables, lent));
+        Some(forward.map(|_| store.host.copy))
     }
 
     fn copied(&self) -> Box<dyn Store> {

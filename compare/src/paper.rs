@@ -488,7 +488,7 @@ pub fn redo_page(log: &[u8], page: &mut [u8], number: u8) -> Outcome {
     for (row, place) in rows_of(log).iter().zip(1..) {
         let is_on_page = row.is_change_or_undo() && page_of(row.cell) == number as usize;
         if is_on_page && place > get_mark(page, 0) {
-            // "A change is added, an undo subtracted, and the mark set." By itself a page stands where
+            // "A change is added, an undo subtracted, and the mark set." Alone a page stands where
             // page 0 does.
             let cell = row.cell % CELLS_PER_PAGE as u8;
             let before = get_cell(page, cell);

@@ -186,9 +186,9 @@ pub trait Store {
     fn redo_page(&self, _log: &[u8], _page: &mut [u8], _number: u8) -> Option<Answer> {
         None
     }
-    /// The copy as an opening has it before going backward. None where the opening is refused before, and
+    /// The copy as an opening has it before going backward, or the refusal that the opening gets before. None
     /// where the implementation does not show it.
-    fn forward(&self) -> Option<Vec<u8>> {
+    fn forward(&self) -> Option<Result<Vec<u8>, Answer>> {
         None
     }
 

@@ -121,9 +121,9 @@ impl Store for Wrong {
         }
         Some(answer)
     }
-    fn forward(&self) -> Option<Vec<u8>> {
+    fn forward(&self) -> Option<Result<Vec<u8>, Answer>> {
         let copy = self.store.forward()?;
-        Some(if self.fault == Fault::Forward { self.charts().to_vec() } else { copy })
+        Some(if self.fault == Fault::Forward { copy.map(|_| self.charts().to_vec()) } else { copy })
     }
     fn is_ready(&self) -> bool {
         self.store.is_ready()

@@ -49,13 +49,13 @@ static void expect_stored(unsigned rows, unsigned pages) {
     rows_stored = pages_stored = 0;
 }
 
-/* The refusal is as expected and counts no stored write, and no byte of RAM, log and charts has changed since the last call. */
+/* The answer is as expected and counts no stored write, and no byte of RAM, log and charts has changed since the last call. */
 static void expect_unchanged(const char *what, chart_answer a, int number, int32_t value) {
     int changed = memcmp(&ram_before, &ram, sizeof ram) != 0 || memcmp(log_before, stored_log, sizeof log_before) != 0 ||
                   memcmp(charts_before, stored_charts, sizeof charts_before) != 0;
     expect(what, a, number, value);
     if (changed || chart_rows(a) != 0 || chart_pages(a) != 0) {
-        puts("   <- a refusal changed a byte, or counts a stored write");
+        puts("   <- a byte has changed, or a stored write is counted");
         failures++;
     }
 }

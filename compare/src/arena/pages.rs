@@ -11,20 +11,24 @@ use std::ops::Range;
 impl Arena<'_> {
     /// The charts after these pages were redone alone, one after the other, compared in all stores.
     pub(super) fn redo_pages(&mut self, pages: &[u8]) -> Outcome<()> {
-        self.calls += pages.len() as u64;
         let Some(expected) = self.redone(&self.paper, pages)? else {
             return self.differs("paper redoes no page alone");
         };
         // "It leaves that page as the opening has it before going backward."
         let forward = self.paper.forward().ok();
+        let refused = Store::forward(&self.paper).and_then(Result::err);
         let mut met = Vec::new();
         for store in self.stores() {
-            let Some(copy) = store.forward() else {
+            let Some(shown) = store.forward() else {
                 continue;
             };
-            if forward.is_none() {
-                return self.differs(format!("{} opens what paper refuses", store.name()));
+            if shown.as_ref().err() != refused.as_ref() {
+                return self.differs(format!("{} opens otherwise than paper", store.name()));
             }
+            let Ok(copy) = shown else {
+                met.push((store.name(), Shown::Refusal));
+                continue;
+            };
             let mut charts = self.paper.charts.clone();
             for page in pages {
                 charts[bytes_of(*page)].copy_from_slice(&copy[bytes_of(*page)]);
@@ -44,7 +48,6 @@ impl Arena<'_> {
 
     /// One page of this number, with a log and a page of these lengths.
     pub(super) fn redo_lent(&mut self, log: usize, page: usize, number: u8) -> Outcome<Answer> {
-        self.calls += 1;
         let log = with_length(&self.paper.log, log);
         let lent = with_length(&self.paper.charts[bytes_of(number % 32)], page);
         let mut expected = lent.clone();

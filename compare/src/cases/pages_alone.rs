@@ -6,7 +6,7 @@ use crate::arena::{Arena, Outcome};
 use crate::bench::{Bench, Failure};
 use crate::prng::Rng;
 use crate::steps::Step;
-use crate::store::{PAGE, RIGHT};
+use crate::store::{PAGE, RIGHT, ROW, ROWS};
 
 pub fn play(bench: &mut Bench, seed: u64) -> Result<(), Failure> {
     let rng = &mut Rng::new(seed);
@@ -69,7 +69,7 @@ fn lent(rng: &mut Rng, arena: &mut Arena) -> Outcome<()> {
 /// Bytes of log and charts that no opening has checked.
 fn damage(rng: &mut Rng, arena: &mut Arena) -> Outcome<()> {
     let rows = arena.paper.stored_rows();
-    match rng.below(4) {
+    match rng.below(5) {
         // A row in the log, or just behind it, is any bytes of a kind that moves a cell.
         0 | 1 => {
             let at = 16 * rng.below((rows + 2).min(4_096));
@@ -78,7 +78,7 @@ fn damage(rng: &mut Rng, arena: &mut Arena) -> Outcome<()> {
             }
             arena.step(Step::WriteLogByte(at, rng.pick(&[2, 4, 8, 0, 255])))?;
         }
-        // Marks, bytes 2 and 3 and cells of every page are any bytes.
+        // Marks, bytes 2 and 3 and cells of every page are any bytes, many cells at an end of their range.
         2 => {
             let mut charts = vec![0; RIGHT.charts];
             rng.fill(&mut charts);
@@ -86,8 +86,22 @@ fn damage(rng: &mut Rng, arena: &mut Arena) -> Outcome<()> {
                 let any = rng.below(rows + 2);
                 let mark = rng.pick(&[0, 1, any, 4_096, 65_535]) as u16;
                 page[..2].copy_from_slice(&mark.to_le_bytes());
+                for cell in page[4..].chunks_exact_mut(4) {
+                    if rng.chance(1, 2) {
+                        cell.copy_from_slice(&rng.pick(&[i32::MIN, i32::MAX]).to_le_bytes());
+                    }
+                }
             }
             arena.step(Step::WriteCharts(0, charts))?;
+        }
+        // A log of any bytes, of which no row is the end.
+        3 => {
+            let mut log = vec![[0; ROW]; ROWS];
+            for row in &mut log {
+                rng.fill(row);
+                row[0] = rng.pick(&[1, 2, 3, 4, 7, 8, 255]);
+            }
+            arena.step(Step::WriteLog(log))?;
         }
         // A page's mark is another row.
         _ => {

@@ -161,7 +161,7 @@ fn open_and_try(
         arena.step(Step::Format(formatted(rng)))?;
         arena.step(Step::WriteLog(made.rows.clone()))?;
         store_pages(rng, arena, &made.rows)?;
-        arena.step(Step::RedoPages(order(&mut Rng::new(made.rows.len() as u64))))?;
+        arena.step(Step::RedoPages(order(rng)))?;
         if rng.chance(1, 2) {
             arena.step(Step::Scramble(rng.draw()))?;
         }

@@ -2,16 +2,17 @@
 use Prim.Native.Nat.{ℕ, _+_, _*_}
 use mathlib.Core.Path.{_≡_, refl}
 use mathlib.Core.Bool.{cond}
-use mathlib.Core.List.{List, [], _∷_}
+use mathlib.Core.List.{List, [], _∷_, _++_}
 use lib.ListN.{replicate, set}
 use lib.IntN.{ℤ, pos, negsuc}
 use lib.Dec.{eqb}
+use Rattle.book.specs.Lists.{foldl}
 use Rattle.book.specs.Rows.{Row}
 use Rattle.book.specs.Book.{done, refusedBy}
 use Rattle.book.specs.LogBytes.{logBytes}
 use Rattle.book.specs.Pages.{pageBytes}
 use Rattle.book.proofs.WorkedExamples.{computes}
-use Rattle.recovery_model.specs.PageAlone.{endOf, rowsIn, redoneBytes, RedoneAlone, redoneAlone}
+use Rattle.recovery_model.specs.PageAlone.{endOf, rowsIn, redoneBytes, RedoneAlone, redoneAlone, withRedone}
 
 -- a page with this mark, these grams in its first cell, and 0 in the others
 abbrev page : ℕ → ℤ → List ℕ
@@ -70,6 +71,17 @@ record Rows : Type 0 where
 rows : Rows
 unfolding computes endOf rowsIn redoneBytes redoneAlone
 rows = record { from-the-first = refl; other-page = refl; no-row = refl; above-the-mark = refl; at-the-last = refl }
+
+-- ── Several pages ─────────────────────────────────────────────────────────────────────────────────────────────────────
+
+-- charts of which all pages but the first two are blank
+abbrev chartsOf : List ℕ → List ℕ → List ℕ
+chartsOf zeroth first = zeroth ++ first ++ replicate 960 0
+
+-- page 1, page 0, page 1 again, and a number that no page has
+several-pages : foldl (withRedone log) (chartsOf blank blank) (1 ∷ 0 ∷ 1 ∷ 32 ∷ []) ≡ chartsOf (page 5 (pos 5)) (page 3 (pos 70))
+unfolding computes endOf rowsIn redoneBytes redoneAlone
+several-pages = refl
 
 -- ── Bytes that no opening takes ───────────────────────────────────────────────────────────────────────────────────────
 
