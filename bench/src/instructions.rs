@@ -14,7 +14,7 @@ use std::thread;
 /// the function for each call, and are in no count.
 const MAKERS: [&str; 2] = ["counted_proved", "counted_efficient"];
 /// The functions that lend the buffers to the stores.
-const LENDERS: [&str; 2] = ["compare::proved::Proved", "bench::stores::Efficient"];
+const LENDERS: [&str; 2] = ["compare::proved::", "bench::stores::"];
 
 /// The instructions of some calls.
 struct Count {

@@ -1,8 +1,8 @@
 //! The two stores behind one trait, called with nothing in between.
 
 use compare::fast::{self, Fuse, Lent, Ram};
-use compare::proved::Proved;
-use compare::store::{Answer, Scope, Writes, CELLS, RIGHT};
+use compare::proved::{self, Proved};
+use compare::store::{Answer, Scope, Writes, CELLS, PAGE, RIGHT};
 
 /// A call of a store, or a byte that the host writes to its memory.
 #[derive(Clone, Copy, Debug)]
@@ -25,6 +25,8 @@ pub enum Call {
     Force,
     Flush(u8),
     Read(u8),
+    /// A copy of this page of the stored charts is redone alone.
+    RedoPage(u8),
     /// A byte of the stored log, and one of the stored charts: where, and which.
     WriteLog(u16, u8),
     WriteCharts(u16, u8),
@@ -139,9 +141,26 @@ impl Efficient {
     }
 }
 
+/// The page that is lent alone, as `compare::proved` has it.
+#[inline(never)]
+fn redo_page(log: &[u8], page: &mut [u8], number: u8) -> Answer {
+    fast::redo_page(log, page, number)
+}
+
+/// A copy of a page of the charts is redone alone. The value is a sum of its bytes, by which the two stores
+/// are compared.
+#[inline(always)]
+fn redone(charts: &[u8], number: u8, redo: impl FnOnce(&mut [u8]) -> Answer) -> Answer {
+    let mut page = [0; PAGE];
+    page.copy_from_slice(&charts[PAGE * usize::from(number)..][..PAGE]);
+    let answer = redo(&mut page);
+    let value = page.iter().zip(1..).map(|(byte, place)| i64::from(*byte) * place).sum();
+    Answer { value, ..answer }
+}
+
 /// A store has its functions for the calls by the same names.
 macro_rules! charts {
-    ($store:ident, $counted:literal) => {
+    ($store:ident, $redo_page:path, $counted:literal) => {
         impl Charts for $store {
             fn new() -> $store {
                 $store::new()
@@ -162,6 +181,9 @@ macro_rules! charts {
                     Call::Force => self.force(),
                     Call::Flush(page) => self.flush(page),
                     Call::Read(cell) => self.read(cell),
+                    Call::RedoPage(number) => {
+                        redone(&self.charts, number, |page| $redo_page(&self.log, page, number))
+                    }
                     Call::WriteLog(at, byte) => written(&mut self.log, at, byte),
                     Call::WriteCharts(at, byte) => written(&mut self.charts, at, byte),
                 }
@@ -184,8 +206,8 @@ macro_rules! charts {
     };
 }
 
-charts!(Proved, "counted_proved");
-charts!(Efficient, "counted_efficient");
+charts!(Proved, proved::redo_page, "counted_proved");
+charts!(Efficient, redo_page, "counted_efficient");
 
 fn written(bytes: &mut [u8], at: u16, byte: u8) -> Answer {
     bytes[usize::from(at)] = byte;

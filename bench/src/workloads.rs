@@ -7,7 +7,7 @@ use compare::store::CELLS;
 pub type Workload = fn(&mut Script);
 
 /// All workloads by their names, in the order of the reports.
-pub const WORKLOADS: [(&str, Workload); 25] = [
+pub const WORKLOADS: [(&str, Workload); 26] = [
     ("format", format),
     ("read", read),
     ("begin", begin),
@@ -33,6 +33,7 @@ pub const WORKLOADS: [(&str, Workload); 25] = [
     ("open: power fails in its undo rows", cut_open),
     ("open: rejected for its last row", bad_row),
     ("open: rejected for its last page", bad_page),
+    ("a page alone, of 4,096 rows", page_alone),
 ];
 
 /// What a workload does, in order.
@@ -259,6 +260,12 @@ fn bad_page(script: &mut Script) {
     script.prepare([WriteCharts(31 * 32 + 2, 1)]);
     script.measure([Open; 3]);
     script.prepare([WriteCharts(31 * 32 + 2, 0), Open]);
+}
+
+/// The 32 pages, of which the first ten have rows above their marks.
+fn page_alone(script: &mut Script) {
+    committed(script);
+    script.measure((0..32).map(RedoPage));
 }
 
 /// Changes by visit 1, of so many cells in turn.

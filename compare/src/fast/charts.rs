@@ -1,6 +1,6 @@
 //! Pages: cells, marks, and what a row does to them.
 
-use super::rows::{row_at, Row, Rows, CHANGE, UNDO};
+use super::rows::{Row, Rows, CHANGE, ROW, UNDO};
 use crate::store::CELLS;
 
 pub const PAGES: usize = 32;
@@ -79,14 +79,16 @@ pub fn redo(charts: &mut [u8], rows: &Rows) {
 /// Applies the rows above its mark to one page, lent alone: it stands where page 0 of charts does. The
 /// log may be any bytes, so a row has the number of its place.
 pub fn redo_alone(page: &mut [u8], number: usize, log: &[u8]) {
-    let mark = usize::from(get_mark(page, 0));
-    let mut count = 0;
-    while let Some(bytes) = row_at(log, count).filter(|bytes| bytes[0] != 0) {
-        count += 1;
+    let first = (number * CELLS_PER_PAGE) as u8;
+    let mark = get_mark(page, 0);
+    for (bytes, place) in log.as_chunks::<ROW>().0.iter().zip(1..) {
+        if bytes[0] == 0 {
+            break;
+        }
         let row = Row::decode(bytes);
-        if count > mark && page_of(row.cell) == number {
-            let cell = row.cell % CELLS_PER_PAGE as u8;
-            apply(page, &Row { cell, number: count as u16, ..row });
+        let cell = row.cell.wrapping_sub(first);
+        if place > mark && usize::from(cell) < CELLS_PER_PAGE {
+            apply(page, &Row { cell, number: place, ..row });
         }
     }
 }

@@ -51,7 +51,7 @@ page-read bs long byte = listed bs ∙ ap (λ (m : ℕ). tabulate m 0 b) long �
         (ap join (tabulate-same 7 0 (λ j. le 4 (bitsOf 32 (signed 32 (number 4 bs (4 + 4 * j))))) (λ j. four (4 + 4 * j)) (λ j f k. cell (4 + 4 * j))))
 
 -- with zeros there they are those of the page
-pub page-exact : (bs : List ℕ) → length bs ≡ 32 → AreBytes bs → number 2 bs 2 ≡ 0 → bs ≡ pageBytes (pageOf bs)
+page-exact : (bs : List ℕ) → length bs ≡ 32 → AreBytes bs → number 2 bs 2 ≡ 0 → bs ≡ pageBytes (pageOf bs)
 unfolding pageBytes
 page-exact bs long byte z =
     let two : getD bs 2 0 ≡ 0 = omega arith in
