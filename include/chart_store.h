@@ -13,15 +13,15 @@
  *
  * What the host sees to
  *
- *   - The pointers are not null, and point to as many bytes as the struct's type and the two lengths say.
+ *   - The pointers are not null, and point to as many bytes as their types and the lengths say.
  *   - RAM, log, charts, the cells of a format and a page lent alone do not overlap.
  *   - Two calls on the same store do not run at the same time, not even in an interrupt.
  *   - Between two calls it leaves RAM, log and charts alone. If it does not, each call still ends with an answer, but the charts may be wrong.
  *   - The memory of log and charts stores as is said next.
  *
- * Nothing else is asked: a log, charts, cells or a page of another length are refused (CHART_WRONG_LENGTH), and no argument and no contents of RAM, log and charts
- * can make a call trap, run on or write elsewhere. A refused call changes no byte, but for the calls in which the power fails (CHART_CLOSED) and the openings
- * that reject the store (CHART_BAD_ROW, CHART_BAD_PAGE): they leave every byte of RAM 0.
+ * Nothing else is asked: a log, charts, cells or a page of another length are refused (CHART_WRONG_LENGTH), and no argument and no contents of RAM, log,
+ * charts and page can make a call trap, run on or write elsewhere. A refused call changes no byte, but for the calls in which the power fails (CHART_CLOSED)
+ * and the openings that reject the store (CHART_BAD_ROW, CHART_BAD_PAGE): they leave every byte of RAM 0.
  *
  * What the memory of log and charts must do
  *

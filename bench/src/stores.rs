@@ -4,7 +4,7 @@ use compare::fast::{self, Fuse, Lent, Ram};
 use compare::proved::{self, Proved};
 use compare::store::{Answer, Scope, Writes, CELLS, PAGE, RIGHT};
 
-/// A call of a store, or a byte that the host writes to its memory.
+/// A call of a store, a page redone alone, or a byte that the host writes to its memory.
 #[derive(Clone, Copy, Debug)]
 pub enum Call {
     /// A format with zeros.
@@ -141,7 +141,7 @@ impl Efficient {
     }
 }
 
-/// The page that is lent alone, as `compare::proved` has it.
+/// Lends log and page to the efficient store, as `compare::proved::redo_page` does to the proved one.
 #[inline(never)]
 fn redo_page(log: &[u8], page: &mut [u8], number: u8) -> Answer {
     fast::redo_page(log, page, number)

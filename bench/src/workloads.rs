@@ -33,7 +33,7 @@ pub const WORKLOADS: [(&str, Workload); 26] = [
     ("open: power fails in its undo rows", cut_open),
     ("open: rejected for its last row", bad_row),
     ("open: rejected for its last page", bad_page),
-    ("a page alone, of 4,096 rows", page_alone),
+    ("a page alone: 4,096 committed rows", page_alone),
 ];
 
 /// What a workload does, in order.

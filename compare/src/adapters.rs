@@ -1,7 +1,7 @@
 //! The two implementations as `Store`s.
 
 use crate::fast::{self, Fuse, Lent, Phase, Ram};
-use crate::paper::{self, Ledger, Paper, Row};
+use crate::paper::{Ledger, Paper, Row};
 use crate::prng::Rng;
 use crate::store::{noise, take_over, with_length};
 use crate::store::{Answer, Buffer, Call, Host, Scope, State, Store, RIGHT, ROW, ROWS};
@@ -94,16 +94,6 @@ impl Store for Paper {
         ram.extend(&self.copy);
         ram.extend(self.tail.iter().flat_map(|row| row.bytes()));
         ram
-    }
-
-    fn redo_page(&self, log: &[u8], page: &mut [u8], number: u8) -> Option<Answer> {
-        let outcome = paper::redo_page(log, page, number);
-        Some(Paper::new().answer(outcome))
-    }
-
-    fn forward(&self) -> Option<Result<Vec<u8>, Answer>> {
-        let forward = Paper::forward(self).map(|(_, copy)| copy);
-        Some(forward.map_err(|refusal| Paper::new().answer(Err(refusal))))
     }
 
     fn copied(&self) -> Box<dyn Store> {

@@ -157,7 +157,7 @@ pub fn open(ram: &mut Ram, lent: &mut Lent, fuse: Fuse) -> Answer {
 }
 
 /// The checks of an opening, and the copy as it is before the opening goes backward; gives the rows of the
-/// log. Tables and scopes are those of no rows.
+/// log. Before it tables and scopes are those of no rows; where nothing is refused, after it those of the log.
 pub fn forward(tables: &mut Tables, lent: &mut Lent) -> Result<u16, Answer> {
     let stored = check_log(tables, lent.scopes, lent.log).map_err(|row| refused_at(3, row))?;
     let rows = Rows { log: lent.log, stored, tail: &[] };

@@ -507,9 +507,17 @@ pub fn redo_page(log: &[u8], page: &mut [u8], number: u8) -> Outcome {
 // --------------------------------------------------------------------------------------- power
 
 /// A refusal of the table: its number, and the value where one is named.
+#[derive(PartialEq, Eq)]
 pub struct Refusal {
     number: u8,
     value: i64,
+}
+
+impl Refusal {
+    /// The answer of a refusal that landed no write.
+    pub fn answer(&self) -> Answer {
+        Answer { number: self.number, value: self.value, writes: Writes::NONE }
+    }
 }
 
 /// "Values not named are 0."

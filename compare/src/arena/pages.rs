@@ -4,45 +4,47 @@
 
 use super::{Arena, Outcome};
 use crate::observe::{self, pages::Shown};
+use crate::paper;
 use crate::report;
-use crate::store::{with_length, Answer, Store, PAGE, RIGHT};
+use crate::store::{with_length, Answer, Store, Writes, PAGE, RIGHT};
 use std::ops::Range;
 
 impl Arena<'_> {
     /// The charts after these pages were redone alone, one after the other, compared in all stores.
     pub(super) fn redo_pages(&mut self, pages: &[u8]) -> Outcome<()> {
-        let Some(expected) = self.redone(&self.paper, pages)? else {
-            return self.differs("paper redoes no page alone");
-        };
-        // "It leaves that page as the opening has it before going backward."
-        let forward = self.paper.forward().ok();
-        let refused = Store::forward(&self.paper).and_then(Result::err);
-        let mut met = Vec::new();
-        for store in self.stores() {
-            let Some(shown) = store.forward() else {
-                continue;
-            };
-            if shown.as_ref().err() != refused.as_ref() {
-                return self.differs(format!("{} opens otherwise than paper", store.name()));
+        let mut expected = self.paper.charts.clone();
+        for number in pages {
+            let page = &mut expected[bytes_of(*number)];
+            if paper::redo_page(&self.paper.log, page, *number) != Ok(0) {
+                return self.differs(format!("page {number} alone: paper refuses it"));
             }
-            let Ok(copy) = shown else {
-                met.push((store.name(), Shown::Refusal));
-                continue;
-            };
-            let mut charts = self.paper.charts.clone();
-            for page in pages {
-                charts[bytes_of(*page)].copy_from_slice(&copy[bytes_of(*page)]);
-            }
-            self.same_charts(store.name(), &charts, &expected)?;
-            met.push((store.name(), Shown::Copy));
         }
-        for store in self.stores() {
-            if let Some(charts) = self.redone(store, pages)? {
+        // "It leaves that page as the opening has it before going backward."
+        let forward = self.paper.forward();
+        let refused = forward.as_ref().err().map(|refusal| refusal.answer());
+        let mut met = Vec::new();
+        if let Ok((_, copy)) = &forward {
+            self.same_pages("paper", pages, copy, &expected)?;
+            met.push(("paper", Shown::Copy));
+        }
+        for store in &self.others {
+            match store.forward() {
+                Some(shown) if shown.as_ref().err() != refused.as_ref() => {
+                    return self.differs(format!("{} opens otherwise than paper", store.name()));
+                }
+                Some(Ok(copy)) => {
+                    self.same_pages(store.name(), pages, &copy, &expected)?;
+                    met.push((store.name(), Shown::Copy));
+                }
+                Some(Err(_)) => met.push((store.name(), Shown::Refusal)),
+                None => {}
+            }
+            if let Some(charts) = self.redone(store.as_ref(), pages)? {
                 self.same_charts(store.name(), &charts, &expected)?;
                 met.push((store.name(), Shown::Pages));
             }
         }
-        observe::pages::redone(self.cover, &self.paper, &met, pages, forward.as_ref());
+        observe::pages::redone(self.cover, &self.paper, &met, pages, forward.as_ref().ok());
         Ok(())
     }
 
@@ -51,13 +53,14 @@ impl Arena<'_> {
         let log = with_length(&self.paper.log, log);
         let lent = with_length(&self.paper.charts[bytes_of(number % 32)], page);
         let mut expected = lent.clone();
-        let Some(answer) = self.paper.redo_page(&log, &mut expected, number) else {
-            return self.differs("paper redoes no page alone");
+        let answer = match paper::redo_page(&log, &mut expected, number) {
+            Ok(value) => Answer { number: 0, value, writes: Writes::NONE },
+            Err(refusal) => refusal.answer(),
         };
         if answer.number != 0 && expected != lent {
             return self.differs("paper refuses a page, and alters it");
         }
-        for store in self.stores() {
+        for store in &self.others {
             let mut page = lent.clone();
             let Some(theirs) = store.redo_page(&log, &mut page, number) else {
                 continue;
@@ -75,10 +78,13 @@ impl Arena<'_> {
         Ok(answer)
     }
 
-    /// The paper's store and the others.
-    fn stores(&self) -> impl Iterator<Item = &dyn Store> {
-        let paper: &dyn Store = &self.paper;
-        std::iter::once(paper).chain(self.others.iter().map(|other| other.as_ref()))
+    /// The pages of a copy, each where it stands in the stored charts.
+    fn same_pages(&self, name: &str, pages: &[u8], copy: &[u8], expected: &[u8]) -> Outcome<()> {
+        let mut charts = self.paper.charts.clone();
+        for page in pages {
+            charts[bytes_of(*page)].copy_from_slice(&copy[bytes_of(*page)]);
+        }
+        self.same_charts(name, &charts, expected)
     }
 
     /// The stored charts with these pages redone alone by the store's own function. None if it has none.
@@ -89,8 +95,8 @@ impl Arena<'_> {
             let Some(answer) = store.redo_page(&self.paper.log, page, *number) else {
                 return Ok(None);
             };
-            let text = report::answer(answer);
-            if text != "0 0 0 0" {
+            if answer != (Answer { number: 0, value: 0, writes: Writes::NONE }) {
+                let text = report::answer(answer);
                 return self.differs(format!("page {number} alone: {} answers {text}", store.name()));
             }
         }

@@ -70,10 +70,11 @@ fn lent(rng: &mut Rng, arena: &mut Arena) -> Outcome<()> {
 fn damage(rng: &mut Rng, arena: &mut Arena) -> Outcome<()> {
     let rows = arena.paper.stored_rows();
     match rng.below(5) {
-        // A row in the log, or just behind it, is any bytes of a kind that moves a cell.
+        // A row in the log, or just after it, is any bytes: a change, an undo, a row of an unknown kind, or the
+        // end.
         0 | 1 => {
-            let at = 16 * rng.below((rows + 2).min(4_096));
-            for byte in 1..16 {
+            let at = ROW * rng.below((rows + 2).min(ROWS));
+            for byte in 1..ROW {
                 arena.step(Step::WriteLogByte(at + byte, rng.byte()))?;
             }
             arena.step(Step::WriteLogByte(at, rng.pick(&[2, 4, 8, 0, 255])))?;

@@ -71,7 +71,7 @@ pub fn redone(
     }
 }
 
-/// A page of charts that were redone by a log, where an opening refuses the one or the other.
+/// A page that was redone alone, where an opening refuses the log or the charts.
 fn unchecked(cover: &mut Cover, charts: &[u8], rows: &[Row], page: u8) {
     let at = PAGE * usize::from(page);
     let mark = usize::from(get_mark(charts, usize::from(page)));

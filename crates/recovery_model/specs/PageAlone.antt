@@ -35,13 +35,13 @@ endOf log = firstFailing rowLimit 0 (hasKind log)
 unfoldable pub rowsIn : List ℕ → List Row
 rowsIn log = tabulate (endOf log) 0 (λ k. rowOf (take rowLength (drop (rowLength * k) log)))
 
--- 01, open, forward, of any page: each change or undo row whose number exceeds the mark is applied, and the last of them becomes the mark
+-- 01, open, forward, of any page: each change or undo row whose number exceeds the mark is applied, and the last of them becomes the mark, if there is one
 abbrev pub redoneAbove : List Row → ℕ → List ℕ → Page
 redoneAbove rs p bs =
     let above : List Row = drop (pageOf bs .mark) rs in
     record { mark = pageOf bs .mark + lastOn p above; cell = λ j. pageOf bs .cell j +ℤ total (map (movedBy (places * p + j)) above) }
 
--- the page's bytes after that; bytes 2-3 stay
+-- the page's bytes after that, of a cell its lowest 32 bits; bytes 2-3 stay
 unfoldable pub redoneBytes : List Row → ℕ → List ℕ → List ℕ
 redoneBytes rs p bs = sets (pageBytes (redoneAbove rs p bs)) 2 (getD bs 2 0 ∷ getD bs 3 0 ∷ [])
 
@@ -73,7 +73,7 @@ PageAlone =
 abbrev pub withRedone : List ℕ → List ℕ → ℕ → List ℕ
 withRedone log charts p = withPage p (redoneAlone log p (pageAt charts p) .page) charts
 
--- the list names each of the 32 pages, in any order and any of them more than once
+-- the list names each of the 32 pages, in any order and any of them more than once; a number that no page has changes nothing
 abbrev pub AllPages : List ℕ → Type 0
 AllPages ps = (p : ℕ) → p < pageLimit → member p ps ≡ true
 

@@ -1,4 +1,4 @@
--- A page redone alone (specs/PageAlone) at its limits, with two violations at once, and from logs and pages that no opening takes. All hold by computing.
+-- A page redone alone (recovery_model/specs/PageAlone) at its limits, with two violations at once, and from logs and pages that no opening takes. All hold by computing.
 use Prim.Native.Nat.{ℕ, _+_, _*_}
 use mathlib.Core.Path.{_≡_, refl}
 use mathlib.Core.Bool.{cond}

@@ -1,5 +1,5 @@
-//! The refusals of 01's table, with the line that request L2 of 02 adds to it, and those of a page redone alone
-//! (L3): each by itself, and two at once.
+//! The refusals of 01's table, with the line that request L2 of 02 adds to it, and those of a page redone
+//! alone (L3): each by itself, and two at once.
 
 use super::Table;
 

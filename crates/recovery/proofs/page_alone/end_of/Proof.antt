@@ -1,4 +1,5 @@
--- `recovery::page_alone::end_of` meets its contract. The loop's invariant: the rows before `k` have a kind, so the log ends where it ends from `k` on. Assumes nothing.
+-- `recovery::page_alone::end_of` meets its contract. The loop's invariant: the rows before `k` have a kind, so the log ends where it ends from `k` on.
+-- Assumes nothing.
 use Prim.Native.Nat.{_-_, _≤_}
 use mathlib.Core.Bool.{not}
 use mathlib.Core.Path.{_≡_, refl, ap, sym, _∙_}

@@ -18,7 +18,8 @@ use Rattle.recovery.proofs.page_alone.redo_page_alone.Statement.{statem
 use Rattle.recovery.proofs.page_alone.redo_page_alone.Tie as tie
 
 -- log and page have their lengths
-fit : (c : tie.Else1) → let s = c .before .before .before .before in eqb (length (s .args .log .now)) logLength && eqb (length (s .args .page .now)) pageLength ≡ true
+fit : (c : tie.Else1) → let a = c .before .before .before .before .args in
+    eqb (length (a .log .now)) logLength && eqb (length (a .page .now)) pageLength ≡ true
 fit c = sym (c .before .lengths-fit .ensures) ∙ not-false _ (c .if1 .left)
 
 returns : tie.Need-returns
