@@ -158,6 +158,12 @@ fn found(wrong: Maker, play: fn(&mut Bench, u64) -> Result<(), Failure>) -> (Vec
     (makers, failure)
 }
 
+/// Plays until the store with this fault is found, by a difference whose report has this text.
+fn is_found(wrong: Maker, play: fn(&mut Bench, u64) -> Result<(), Failure>, text: &str) {
+    let (_, failure) = found(wrong, play);
+    assert!(failure.difference.text.contains(text), "{}", failure.difference.text);
+}
+
 #[test]
 fn a_wrong_store_is_found_and_the_case_is_short() {
     let (makers, failure) = found(|| Wrong::boxed(Fault::Read), sessions::play);
@@ -169,18 +175,14 @@ fn a_wrong_store_is_found_and_the_case_is_short() {
 
 #[test]
 fn faults_in_ram_are_found() {
-    let (_, fuse) = found(|| Wrong::boxed(Fault::Fuse), sessions::play);
-    assert!(fuse.difference.text.contains("fuse"), "{}", fuse.difference.text);
-    let (_, ram) = found(|| Wrong::boxed(Fault::Ram), sessions::play);
-    assert!(ram.difference.text.contains("its RAM"), "{}", ram.difference.text);
-    let (_, refusal) = found(|| Wrong::boxed(Fault::Refusal), sessions::play);
-    assert!(refusal.difference.text.contains("its RAM"), "{}", refusal.difference.text);
+    is_found(|| Wrong::boxed(Fault::Fuse), sessions::play, "fuse");
+    is_found(|| Wrong::boxed(Fault::Ram), sessions::play, "its RAM");
+    is_found(|| Wrong::boxed(Fault::Refusal), sessions::play, "its RAM");
 }
 
 #[test]
 fn a_5_with_power_to_go_on_is_found_in_altered_ram() {
-    let (_, failure) = found(|| Wrong::boxed(Fault::Altered), garbage::play);
-    assert!(failure.difference.text.contains("altered RAM"), "{}", failure.difference.text);
+    is_found(|| Wrong::boxed(Fault::Altered), garbage::play, "altered RAM");
 }
 
 #[test]
@@ -188,21 +190,16 @@ fn wrong_counts_are_found() {
     let wrong: [Maker; 3] =
         [|| Wrong::boxed(Fault::Waiting), || Wrong::boxed(Fault::Page), || Wrong::boxed(Fault::Cut)];
     for wrong in wrong {
-        let (_, failure) = found(wrong, sessions::play);
-        assert!(failure.difference.text.contains("paper answers"), "{}", failure.difference.text);
+        is_found(wrong, sessions::play, "paper answers");
     }
-    let (_, failure) = found(|| Wrong::boxed(Fault::AlteredCount), garbage::play);
-    assert!(failure.difference.text.contains("it counts"), "{}", failure.difference.text);
+    is_found(|| Wrong::boxed(Fault::AlteredCount), garbage::play, "it counts");
 }
 
 #[test]
 fn pages_alone_that_are_wrong_are_found() {
-    let (_, mark) = found(|| Wrong::boxed(Fault::Mark), pages_alone::play);
-    assert!(mark.difference.text.contains("pages redone alone"), "{}", mark.difference.text);
-    let (_, lent) = found(|| Wrong::boxed(Fault::Lent), pages_alone::play);
-    assert!(lent.difference.text.contains("leaves other bytes"), "{}", lent.difference.text);
-    let (_, forward) = found(|| Wrong::boxed(Fault::Forward), pages_alone::play);
-    assert!(forward.difference.text.contains("pages redone alone"), "{}", forward.difference.text);
+    is_found(|| Wrong::boxed(Fault::Mark), pages_alone::play, "pages redone alone");
+    is_found(|| Wrong::boxed(Fault::Lent), pages_alone::play, "leaves other bytes");
+    is_found(|| Wrong::boxed(Fault::Forward), pages_alone::play, "pages redone alone");
 }
 
 #[test]
