@@ -63,7 +63,7 @@ extern "C" {
 #endif
 
 /* Of this header. The archive does not know it: link the two from one version. */
-#define CHART_VERSION 4
+#define CHART_VERSION 5
 
 /* ---- Limits ---- */
 
@@ -113,8 +113,8 @@ typedef struct chart_store {
  * bits 56 to 63 the pages.
  *
  * The two counts say which calls wear the memory: each row and each page is one stored write. A row counts for the call that stores it, whichever call added
- * it: an opening, a commit, a force, a flush, or a call that adds a row while CHART_ROWS_WAITING rows wait (an abort may do so several times). A format counts
- * none, and so does a refused call, but for one in which the power fails: it counts what landed before. */
+ * it: an opening, a begin, a commit, a force, a flush, or a call that adds a row while CHART_ROWS_WAITING rows wait (an abort may do so several times). A format
+ * counts none, and so does a refused call, but for one in which the power fails: it counts what landed before. */
 typedef uint64_t chart_answer;
 
 static inline int chart_number(chart_answer a) { return (int)((a >> 32) & 255u); }
@@ -203,7 +203,8 @@ static inline chart_answer chart_format(const chart_store *s, const int32_t *cel
  * Value: the rows that it wrote. Refusals 1, 3, 4, 5. */
 static inline chart_answer chart_open(const chart_store *s, uint32_t fuse) { return chart_open_on(CHART_OF(s), fuse); }
 
-/* Begins a visit. Its row waits in RAM; if the power fails before it is stored (by a commit, a force or a full tail), the number is given again.
+/* Begins a visit, and stores the rows that wait, then its own, 65 at most: once this has answered done, its number is given to no other visit until the store
+ * is formatted, whatever happens to the power. If the power fails in it no visit has begun: it answers 5, and its row is not in the log.
  * Value: its number. Refusals 1, 5, 6, 7, 8. */
 static inline chart_answer chart_begin(const chart_store *s) { return chart_begin_on(CHART_OF(s)); }
 

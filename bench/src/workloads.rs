@@ -141,7 +141,7 @@ fn ends(script: &mut Script, end: fn(u16) -> Call) {
 }
 
 fn force(script: &mut Script) {
-    script.prepare([Begin, Force]);
+    script.prepare([Begin]);
     for _ in 0..25 {
         script.prepare(changes_of(64, 8));
         script.measure([Force]);
@@ -227,8 +227,9 @@ fn open_undone(script: &mut Script) {
 fn cut_commit(script: &mut Script) {
     script.number = 5;
     for visit in 1..=20 {
-        script.prepare([Open, OpenWith(32), Begin]);
-        script.prepare((0..62).map(|cell| Change(visit, cell, 5)));
+        // The begin stores its row.
+        script.prepare([Open, OpenWith(1 + 32), Begin]);
+        script.prepare((0..63).map(|cell| Change(visit, cell, 5)));
         script.measure([Commit(visit)]);
     }
     script.prepare([Open]);

@@ -9,6 +9,7 @@ mod power;
 
 use crate::cover::{number_of, Cover};
 use crate::demands::Demands;
+use crate::observe::begins::SinceBegin;
 use crate::observe::conditions::{self, Conditions};
 use crate::observe::openings::Opening;
 use crate::observe::{self, Moment};
@@ -43,6 +44,7 @@ pub struct Arena<'a> {
     demands: Option<Demands>,
     /// The session that runs, while the host keeps to 01.
     session: Option<Session>,
+    since_begin: SinceBegin,
     lent: Lengths,
     moment: Moment,
     steps: Vec<Step>,
@@ -65,6 +67,7 @@ impl<'a> Arena<'a> {
             sound: true,
             demands: Some(Demands::new(&[0; 224])),
             session: None,
+            since_begin: SinceBegin::default(),
             lent: RIGHT,
             moment: Moment::default(),
             steps: Vec::new(),
@@ -206,6 +209,7 @@ impl<'a> Arena<'a> {
             self.sound = true;
             self.demands = Some(Demands::new(cells));
             self.session = None;
+            self.since_begin = SinceBegin::default();
         }
         self.after()?;
         // "A format's are zero."
@@ -244,6 +248,9 @@ impl<'a> Arena<'a> {
             charts: &self.paper.charts,
         };
         observe::openings::open(self.cover, &opening);
+        if answer.number == 0 {
+            self.since_begin.opened(&self.paper.log, stored);
+        }
         if let Some(demands) = &self.demands {
             // "An opening whose lent buffers have 01's lengths and whose power holds ends ready."
             let kept = match answer.number {
@@ -277,10 +284,15 @@ impl<'a> Arena<'a> {
         }
         self.add_to_session(answer)?;
         observe::call(self.cover, call, lent, answer, &before, &self.moment);
+        self.since_begin.call(self.cover, call, answer, &before);
         if let (Call::Commit { visit }, 0, Some(demands)) = (call, answer.number, &mut self.demands) {
             let held = before.ledger.changes.iter().filter(|change| change.holder == visit);
             let rows: Vec<u16> = held.map(|change| change.row).collect();
             let kept = demands.after_commit(&self.paper.log, visit, answer.value, &rows);
+            self.demanded(kept)?;
+        }
+        if let (Call::Begin, 0, Some(demands)) = (call, answer.number, &mut self.demands) {
+            let kept = demands.after_begin(&self.paper.log, answer.value);
             self.demanded(kept)?;
         }
         Ok(answer)
@@ -385,7 +397,7 @@ impl<'a> Arena<'a> {
     }
 
     fn demanded(&self, kept: Result<(), String>) -> Outcome<()> {
-        kept.or_else(|text| self.differs(format!("demand 3 is not met: {text}")))
+        kept.or_else(|text| self.differs(format!("demand 3 or L4 is not met: {text}")))
     }
 
     /// Lets every store make the call and compares answers and bytes. `leaves` says what an answer's number

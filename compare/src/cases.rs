@@ -1,6 +1,7 @@
 //! The cases of the comparison, in parts. Every part makes its cases from a number, the seed, so that
 //! each of them can be made again.
 
+pub mod begins;
 pub mod counts;
 pub mod crowded;
 pub mod cuts;

@@ -1,9 +1,11 @@
-//! The customer's demand 3, checked on the bytes that the sessions leave. The comparison shows that
-//! the stores agree; this shows that what they agree on is what was asked for.
+//! The customer's demand 3, and what document 02 asks of begins (request L4), checked on the bytes that the
+//! sessions leave. The comparison shows that the stores agree; this shows that what they agree on is what was
+//! asked for.
 //!
 //! It holds for a formatted store whose memory nobody else writes.
 
-use crate::paper::{get_cell, rows_of, Row, ABORT, CHANGE, COMMIT, HAND_OVER, HAND_OVER_ALL, UNDO};
+use crate::paper::{get_cell, rows_of, Row};
+use crate::paper::{ABORT, BEGIN, CHANGE, COMMIT, HAND_OVER, HAND_OVER_ALL, UNDO};
 use std::collections::BTreeSet;
 
 pub struct Demands {
@@ -14,6 +16,8 @@ pub struct Demands {
     aborted: BTreeSet<u16>,
     /// Rows of the changes that a visit held when its commit was answered done.
     promised: Vec<u16>,
+    /// The visit of the last begin that was answered done, or 0.
+    last_visit: i64,
 }
 
 impl Demands {
@@ -24,6 +28,7 @@ impl Demands {
             undone: BTreeSet::new(),
             aborted: BTreeSet::new(),
             promised: Vec::new(),
+            last_visit: 0,
         }
     }
 
@@ -63,6 +68,20 @@ impl Demands {
             return Err(format!("visit {visit} is committed without its row"));
         }
         self.promised.extend_from_slice(held);
+        Ok(())
+    }
+
+    /// After a begin answered done: it "has its row in every later log", which is so from here on since the
+    /// log only grows, and "no number is given to two visits". What waited was forced before its row.
+    pub fn after_begin(&mut self, log: &[u8], visit: i64) -> Result<(), String> {
+        let is_its = |row: &Row| row.kind == BEGIN && i64::from(row.visit) == visit;
+        if !rows_of(log).last().is_some_and(is_its) {
+            return Err(format!("visit {visit} has begun and its row is not the last one stored"));
+        }
+        if visit <= self.last_visit {
+            return Err(format!("visit {visit} has begun after visit {}", self.last_visit));
+        }
+        self.last_visit = visit;
         Ok(())
     }
 

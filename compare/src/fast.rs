@@ -13,7 +13,7 @@ mod tables;
 
 use crate::store::{Answer, Scope, Writes, CELLS, RIGHT};
 use charts::{bad_page, get_cell, redo, redo_alone, set_cell, PAGE, PAGES};
-use journal::{append, force_all, lose_ram, store_page, Stopped};
+use journal::{append, append_and_force, force_all, lose_ram, store_page, Stopped};
 use recovery::{check_log, roll_back};
 use rows::{Row, Rows, BEGIN, CHANGE, COMMIT, HAND_OVER, HAND_OVER_ALL, ROW, ROWS};
 use tables::{MOST_ACTIVE, MOST_SCOPES, MOST_VISITS};
@@ -218,7 +218,7 @@ pub fn begin(ram: &mut Ram, lent: &mut Lent) -> Answer {
     }
     let visit = ram.tables.begun + 1;
     let row = Row { kind: BEGIN, visit, ..Row::default() };
-    let result = append(ram, lent, row).map(|_| visit);
+    let result = append_and_force(ram, lent, row).map(|_| visit);
     finish(ram, lent, result)
 }
 
@@ -302,10 +302,7 @@ pub fn commit(ram: &mut Ram, lent: &mut Lent, visit: u16) -> Answer {
         return refused(9);
     }
     let row = Row { kind: COMMIT, visit, ..Row::default() };
-    let result = append(ram, lent, row).and_then(|number| {
-        force_all(ram, lent)?;
-        Ok(number)
-    });
+    let result = append_and_force(ram, lent, row);
     finish(ram, lent, result)
 }
 

@@ -1,4 +1,4 @@
-//! The chart store of document 01 with requests L1 to L3 of document 02, written twice in Rust, and the
+//! The chart store of document 01 with requests L1 to L4 of document 02, written twice in Rust, and the
 //! comparison of the proved store with both.
 //!
 //! `paper` is document 01 rendered as literally as possible; `fast` is an efficient store; `proved` is the

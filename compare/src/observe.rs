@@ -1,5 +1,6 @@
 //! Finds out what a step has met. It looks at the paper's store before and after the step.
 
+pub mod begins;
 pub mod conditions;
 pub mod openings;
 pub mod pages;

@@ -737,7 +737,7 @@ impl Paper {
         Ok(rows_written)
     }
 
-    /// "Begin returns the visit."
+    /// "Begin returns the visit." 02, L4: "Begin shall force the log before it returns."
     /// "begin | 6: 255 visits used; 7: 16 active; 8: free below need"
     pub fn begin(&mut self) -> Outcome {
         self.check_lengths()?;
@@ -748,6 +748,7 @@ impl Paper {
         refuse_if(ledger.free() < ledger.reserve() + 2, 8)?;
         let visit = ledger.begin_rows() as u16 + 1;
         self.append(Row { kind: BEGIN, visit, ..Row::default() })?;
+        self.force_tail()?;
         Ok(i64::from(visit))
     }
 

@@ -25,10 +25,14 @@ enum Fault {
     Ram,
     /// It moves a byte of RAM when it refuses a call by 9.
     Refusal,
+    /// It stores the rows that wait when it refuses a begin.
+    RefusedBegin,
     /// It answers 5 in RAM that no calls leave, with power to go on: the first active visit is 0.
     Altered,
-    /// It counts the row of a begin, which waits.
+    /// It counts the row of a change, which waits.
     Waiting,
+    /// It does not count the row of a begin, which is stored.
+    Begin,
     /// It counts the page of a flush in which power fails.
     Page,
     /// It counts nothing in a call in which power fails.
@@ -77,13 +81,17 @@ impl Store for Wrong {
         }
         let mut answer = self.store.call(call);
         match (self.fault, call, answer.number) {
-            (Fault::Waiting, Call::Begin, 0) => answer.writes.rows += 1,
+            (Fault::Waiting, Call::Change { .. }, 0) => answer.writes.rows += 1,
+            (Fault::Begin, Call::Begin, 0) => answer.writes.rows -= 1,
             (Fault::Page, Call::FlushPage { .. }, 5) if state.open => answer.writes.pages += 1,
             (Fault::Cut, _, 5) => answer.writes = Writes::NONE,
             (Fault::AlteredCount, _, 0 | 5) if altered => answer.writes.rows += 1,
             (Fault::Read, Call::Read { .. }, 0) if answer.value != 0 => answer.value += 1,
             (Fault::Ram, _, 5) if state.open => self.byte = 1,
             (Fault::Refusal, _, 9) => self.byte = self.byte.wrapping_add(1),
+            (Fault::RefusedBegin, Call::Begin, 6..=8) => {
+                self.store.call(Call::Force);
+            }
             _ => {}
         }
         answer
@@ -181,14 +189,23 @@ fn faults_in_ram_are_found() {
 }
 
 #[test]
+fn a_refused_begin_that_forces_is_found() {
+    is_found(|| Wrong::boxed(Fault::RefusedBegin), sessions::play, "its RAM");
+}
+
+#[test]
 fn a_5_with_power_to_go_on_is_found_in_altered_ram() {
     is_found(|| Wrong::boxed(Fault::Altered), garbage::play, "altered RAM");
 }
 
 #[test]
 fn wrong_counts_are_found() {
-    let wrong: [Maker; 3] =
-        [|| Wrong::boxed(Fault::Waiting), || Wrong::boxed(Fault::Page), || Wrong::boxed(Fault::Cut)];
+    let wrong: [Maker; 4] = [
+        || Wrong::boxed(Fault::Waiting),
+        || Wrong::boxed(Fault::Begin),
+        || Wrong::boxed(Fault::Page),
+        || Wrong::boxed(Fault::Cut),
+    ];
     for wrong in wrong {
         is_found(wrong, sessions::play, "paper answers");
     }

@@ -1,8 +1,9 @@
 //! The answers that documents 01 and 02 give: 01's twelve cases, those of its text and its run file's example,
-//! the counts of 02's request L1, and the whole visits of L2.
+//! the counts of 02's request L1, the whole visits of L2, and the begins of L4.
 
 use compare::adapters::FastStore;
 use compare::arena::{Arena, Maker};
+use compare::cases::begins::BEGINS;
 use compare::cases::counts::COUNTS;
 use compare::cases::document::Case;
 use compare::cases::text::TEXT;
@@ -51,6 +52,11 @@ fn whole_visits_handed_over() {
     play(&WHOLE_VISIT_ROWS);
 }
 
+#[test]
+fn begins_that_are_stored() {
+    play(&BEGINS);
+}
+
 fn stores() -> [Box<dyn Store>; 4] {
     [
         Box::new(Paper::new()),
@@ -62,23 +68,23 @@ fn stores() -> [Box<dyn Store>; 4] {
 
 /// 01's lines with the counts at the end, which `example/README.md` works out.
 const FUSE_3: &str = "1 0 0 0 0 0
-1 1 0 1 0 0
-1 2 0 2 0 0
+1 1 0 1 1 0
+1 2 0 2 1 0
 1 3 0 3 0 0
 1 4 0 4 0 0
 1 5 0 5 0 0
-1 6 5 0 3 0
+1 6 5 0 1 0
 2 0 0 3 3 0
 2 1 0 0 0 0
 ";
 
 const FUSE_6: &str = "1 0 0 0 0 0
-1 1 0 1 0 0
-1 2 0 2 0 0
+1 1 0 1 1 0
+1 2 0 2 1 0
 1 3 0 3 0 0
 1 4 0 4 0 0
 1 5 0 5 0 0
-1 6 0 6 6 0
+1 6 0 6 4 0
 2 0 0 0 0 0
 2 1 0 -200 0 0
 ";
@@ -111,13 +117,13 @@ const WHOLE_VISIT: [&[u8]; 11] = [
 ];
 
 const WHOLE_VISIT_LINES: &str = "1 0 0 0 0 0
-1 1 0 1 0 0
-1 2 0 2 0 0
+1 1 0 1 1 0
+1 2 0 2 1 0
 1 3 0 3 0 0
 1 4 0 4 0 0
 1 5 0 5 0 0
 1 6 13 0 0 0
-1 7 0 6 6 0
+1 7 0 6 4 0
 2 0 0 1 1 0
 2 1 0 20 0 0
 ";
@@ -208,15 +214,15 @@ fn run_files_at_their_limits() {
     let lines = run(&write(&longest), &mut Paper::new());
     assert_eq!(relog(&write(&longest)), lines);
     assert_eq!(lines.lines().count(), 682);
-    assert!(lines.contains("\n1 16 0 16 0 0\n1 17 7 0 0 0\n"));
+    assert!(lines.contains("\n1 16 0 16 1 0\n1 17 7 0 0 0\n"));
     let many = vec![Session { fuse: Some(0), calls: vec![] }; 32];
     let lines = run(&write(&many), &mut Paper::new());
     assert_eq!(relog(&write(&many)), lines);
     assert!(lines.ends_with("\n32 0 0 0 0 0\n"));
 }
 
-/// A visit of 677 rows, all of them stored: 64 with each of the rows 65, 129, .. 641, and the last 37 by the
-/// force. 676 undo rows and an abort row take it back, over two openings.
+/// A visit of 677 rows, all of them stored: the first by the begin, 64 with each of the rows 66, 130, .. 642,
+/// and the last 36 by the force. 676 undo rows and an abort row take it back, over two openings.
 #[test]
 fn counts_of_a_long_run_file() {
     let change = Call::Change { visit: 1, cell: 0, amount: 1 };
@@ -226,12 +232,12 @@ fn counts_of_a_long_run_file() {
         Session { fuse: Some(500), calls: vec![] },
         Session { fuse: None, calls: vec![] },
     ]);
-    let mut lines = "1 0 0 0 0 0\n1 1 0 1 0 0\n".to_string();
+    let mut lines = "1 0 0 0 0 0\n1 1 0 1 1 0\n".to_string();
     for row in 2..=677 {
-        let stored = if row % 64 == 1 { 64 } else { 0 };
+        let stored = if row > 2 && row % 64 == 2 { 64 } else { 0 };
         lines += &format!("1 {row} 0 {row} {stored} 0\n");
     }
-    lines += "1 678 0 0 37 0\n2 0 5 0 500 0\n3 0 0 177 177 0\n";
+    lines += "1 678 0 0 36 0\n2 0 5 0 500 0\n3 0 0 177 177 0\n";
     for store in stores().iter_mut() {
         assert_eq!(run(&file, store.as_mut()), lines);
     }

@@ -97,7 +97,7 @@ int main(void) {
         puts("   <- the page redone alone is not the page that was stored");
         failures++;
     }
-    expect_stored(6, 1); /* the commit stored rows 1 to 6, the flush its page: the rows of the page were stored */
+    expect_stored(6, 1); /* each begin stored its row, the commit rows 3 to 6, the flush its page: the rows of the page were stored */
 
     /* The plug is pulled: RAM is lost, log and charts stay as they are. */
     memset(&ram, 0xA5, sizeof ram);
@@ -106,7 +106,7 @@ int main(void) {
     expect("read cell 8", chart_read(s, 8), CHART_DONE, 0);
     expect_stored(2, 0); /* an undo row and an abort row */
 
-    /* The plug is pulled in the middle of a commit: of its rows only two land. */
+    /* The plug is pulled in the middle of a commit: of the change's row and its own only the first lands. */
     expect("open, two writes land", chart_open(s, 2), CHART_DONE, 0);
     expect("begin", chart_begin(s), CHART_DONE, 3);
     expect("visit 3 weighs 120 g more in cell 7", chart_change(s, 3, 7, 120), CHART_DONE, 10);
@@ -120,7 +120,7 @@ int main(void) {
     ram.copy[0] = 1;
     remember();
     expect_unchanged("begin: closed, whatever RAM holds", chart_begin(s), CHART_CLOSED, 0);
-    expect_stored(2, 0); /* the writes of the fuse: the rows of begin and change */
+    expect_stored(2, 0); /* the writes of the fuse: the row of the begin, and in the commit that of the change */
     expect("open: the weighing is undone", chart_open(s, CHART_NO_FUSE), CHART_DONE, 2);
     expect("read cell 7", chart_read(s, 7), CHART_DONE, 69650);
 
@@ -136,20 +136,25 @@ int main(void) {
     cells[5] = CHART_FORMAT_GRAMS + 1;
     expect_unchanged("format, cell 5 out of range", chart_format(s, cells, CHART_CELLS), CHART_OUT_OF_RANGE, 5);
     expect("force", chart_force(s), CHART_DONE, 0);
-    expect_stored(2, 0); /* an undo row and an abort row; no row waited for the force */
+    expect("begin: its number goes on a slip", chart_begin(s), CHART_DONE, 4);
+    expect_stored(3, 0); /* an undo row and an abort row, and the row of the begin; no row waited for the force */
+
+    /* The plug is pulled again: the number on the slip is not given to another visit. */
+    memset(&ram, 0xA5, sizeof ram);
+    expect("open: visit 4 ended", chart_open(s, CHART_NO_FUSE), CHART_DONE, 1);
 
     /* A change of shift: all that a visit holds goes over to another, in one row. */
-    expect("begin: the dietitian's visit", chart_begin(s), CHART_DONE, 4);
-    expect("begin: her colleague's visit", chart_begin(s), CHART_DONE, 5);
-    expect("visit 4 adds 500 g to cell 7", chart_change(s, 4, 7, 500), CHART_DONE, 15);
-    expect("visit 4 adds 60 g to cell 8", chart_change(s, 4, 8, 60), CHART_DONE, 16);
-    expect("visit 4 hands all over to visit 5", chart_hand_over_all(s, 4, 5), CHART_DONE, 17);
-    expect_unchanged("once more: it holds nothing", chart_hand_over_all(s, 4, 5), CHART_HOLDS_NONE, 0);
-    expect("visit 4 aborts: it has nothing to undo", chart_abort(s, 4), CHART_DONE, 18);
-    expect("visit 5 commits: both cells last", chart_commit(s, 5), CHART_DONE, 19);
+    expect("begin: the dietitian's visit", chart_begin(s), CHART_DONE, 5);
+    expect("begin: her colleague's visit", chart_begin(s), CHART_DONE, 6);
+    expect("visit 5 adds 500 g to cell 7", chart_change(s, 5, 7, 500), CHART_DONE, 17);
+    expect("visit 5 adds 60 g to cell 8", chart_change(s, 5, 8, 60), CHART_DONE, 18);
+    expect("visit 5 hands all over to visit 6", chart_hand_over_all(s, 5, 6), CHART_DONE, 19);
+    expect_unchanged("once more: it holds nothing", chart_hand_over_all(s, 5, 6), CHART_HOLDS_NONE, 0);
+    expect("visit 5 aborts: it has nothing to undo", chart_abort(s, 5), CHART_DONE, 20);
+    expect("visit 6 commits: both cells last", chart_commit(s, 6), CHART_DONE, 21);
     expect("read cell 7", chart_read(s, 7), CHART_DONE, 70150);
     expect("read cell 8", chart_read(s, 8), CHART_DONE, 60);
-    expect_stored(7, 0); /* rows 13 to 19, by the commit */
+    expect_stored(8, 0); /* the abort row of visit 4, each begin's row, and rows 17 to 21 by the commit */
 
     stored_log[CHART_ROW_LENGTH * 2 + 1] ^= 1;
     expect("open a log whose row 3 was altered", chart_open(s, CHART_NO_FUSE), CHART_BAD_ROW, 3);

@@ -1,5 +1,5 @@
-//! The stored writes that answers count, worked out by hand from documents 01 and 02 (request L1). Each line
-//! is as in a run file: number, value, rows, pages.
+//! The stored writes that answers count, worked out by hand from documents 01 and 02 (request L1, with the
+//! begins of L4). Each line is as in a run file: number, value, rows, pages.
 
 use super::document::Case;
 use crate::arena::{Arena, Outcome};
@@ -12,28 +12,30 @@ pub const COUNTS: [Case; 13] = [
         name: "counts: a row that waits counts for the call that stores it",
         play: |a| {
             formatted(a, None)?;
-            a.expect_line(begin(), "0 1 0 0")?;
+            a.expect_line(begin(), "0 1 1 0")?;
             a.expect_line(change(1, 0, 10), "0 2 0 0")?;
-            a.expect_line(begin(), "0 2 0 0")?;
+            // Row 2, and its own.
+            a.expect_line(begin(), "0 2 2 0")?;
             a.expect_line(hand_over(1, 2, 0), "0 4 0 0")?;
             // The abort row waits too: an abort doesn't force.
             a.expect_line(abort(1), "0 5 0 0")?;
             a.expect_line(read(0), "0 10 0 0")?;
-            // Rows 1 to 5, and its own.
-            a.expect_line(commit(2), "0 6 6 0")?;
+            // Rows 4 and 5, and its own.
+            a.expect_line(commit(2), "0 6 3 0")?;
             a.expect_line(force(), "0 0 0 0")?;
-            a.expect_line(begin(), "0 3 0 0")?;
+            a.expect_line(begin(), "0 3 1 0")?;
+            a.expect_line(change(3, 0, 1), "0 8 0 0")?;
             a.expect_line(force(), "0 0 1 0")
         },
     },
     Case {
         name: "counts: a commit cut at each of its six rows, and done",
         play: |a| {
-            for fuse in 0..=6 {
-                formatted(a, Some(fuse))?;
-                a.expect_line(begin(), "0 1 0 0")?;
-                changes(a, 2..=5)?;
-                let line = if fuse < 6 { format!("5 0 {fuse} 0") } else { "0 6 6 0".into() };
+            for left in 0..=6 {
+                formatted(a, Some(1 + left))?;
+                a.expect_line(begin(), "0 1 1 0")?;
+                changes(a, 2..=6)?;
+                let line = if left < 6 { format!("5 0 {left} 0") } else { "0 7 6 0".into() };
                 a.expect_line(commit(1), &line)?;
             }
             Ok(())
@@ -43,9 +45,9 @@ pub const COUNTS: [Case; 13] = [
         name: "counts: an opening cut after k rows counts k",
         play: |a| {
             formatted(a, None)?;
-            a.expect_line(begin(), "0 1 0 0")?;
+            a.expect_line(begin(), "0 1 1 0")?;
             changes(a, 2..=4)?;
-            a.expect_line(force(), "0 0 4 0")?;
+            a.expect_line(force(), "0 0 3 0")?;
             // Three undo rows and an abort row are to be stored: none, one, one, and the last two.
             a.expect_line(open(Some(0)), "5 0 0 0")?;
             a.expect_line(open(Some(1)), "5 0 1 0")?;
@@ -58,11 +60,11 @@ pub const COUNTS: [Case; 13] = [
         name: "counts: a flush counts the rows up to its page's mark, and its page",
         play: |a| {
             formatted(a, None)?;
-            a.expect_line(begin(), "0 1 0 0")?;
+            a.expect_line(begin(), "0 1 1 0")?;
             a.expect_line(change(1, 0, 1), "0 2 0 0")?;
             a.expect_line(change(1, 7, 1), "0 3 0 0")?;
-            // Rows 1 and 2. Row 3 is of page 1 and waits.
-            a.expect_line(flush(0), "0 0 2 1")?;
+            // Row 2. Row 3 is of page 1 and waits.
+            a.expect_line(flush(0), "0 0 1 1")?;
             a.expect_line(flush(0), "0 0 0 1")?;
             a.expect_line(flush(1), "0 0 1 1")?;
             a.expect_line(flush(5), "0 0 0 1")?;
@@ -73,10 +75,11 @@ pub const COUNTS: [Case; 13] = [
     Case {
         name: "counts: a cut flush counts the rows that landed, and no page",
         play: |a| {
-            for (fuse, line) in [(0, "5 0 0 0"), (1, "5 0 1 0"), (2, "5 0 2 0"), (3, "0 0 2 1")] {
-                formatted(a, Some(fuse))?;
-                a.expect_line(begin(), "0 1 0 0")?;
+            for (left, line) in [(0, "5 0 0 0"), (1, "5 0 1 0"), (2, "5 0 2 0"), (3, "0 0 2 1")] {
+                formatted(a, Some(1 + left))?;
+                a.expect_line(begin(), "0 1 1 0")?;
                 a.expect_line(change(1, 0, 50), "0 2 0 0")?;
+                a.expect_line(change(1, 6, 50), "0 3 0 0")?;
                 a.expect_line(flush(0), line)?;
             }
             formatted(a, Some(1))?;
@@ -89,26 +92,26 @@ pub const COUNTS: [Case; 13] = [
         name: "counts: a full tail counts for the call that stores it first",
         play: |a| {
             formatted(a, None)?;
-            a.expect_line(begin(), "0 1 0 0")?;
-            a.expect_line(begin(), "0 2 0 0")?;
-            changes(a, 3..=64)?;
-            // Of each of these the own row is the first of the next tail.
-            a.expect_line(hand_over(1, 2, 0), "0 65 64 0")?;
-            changes(a, 66..=128)?;
-            a.expect_line(begin(), "0 3 64 0")?;
-            changes(a, 130..=192)?;
-            a.expect_line(change(1, 0, 1), "0 193 64 0")?;
-            changes(a, 194..=256)?;
-            // The full tail, then its own row.
-            a.expect_line(commit(3), "0 257 65 0")
+            a.expect_line(begin(), "0 1 1 0")?;
+            a.expect_line(begin(), "0 2 1 0")?;
+            changes(a, 3..=66)?;
+            // Of each of these two the own row is the first of the next tail.
+            a.expect_line(hand_over(1, 2, 0), "0 67 64 0")?;
+            changes(a, 68..=130)?;
+            a.expect_line(change(1, 0, 1), "0 131 64 0")?;
+            changes(a, 132..=194)?;
+            // Of each of these two the full tail, then the own row, 195 and 260.
+            a.expect_line(begin(), "0 3 65 0")?;
+            changes(a, 196..=259)?;
+            a.expect_line(commit(3), "0 260 65 0")
         },
     },
     Case {
         name: "counts: a full tail cut after ten rows, and the closed store",
         play: |a| {
-            formatted(a, Some(10))?;
-            a.expect_line(begin(), "0 1 0 0")?;
-            changes(a, 2..=64)?;
+            formatted(a, Some(11))?;
+            a.expect_line(begin(), "0 1 1 0")?;
+            changes(a, 2..=65)?;
             a.expect_line(change(1, 0, 1), "5 0 10 0")?;
             for call in [
                 begin(),
@@ -123,34 +126,34 @@ pub const COUNTS: [Case; 13] = [
             ] {
                 a.expect_line(call, "5 0 0 0")?;
             }
-            // Nine changes landed, each of which takes an undo row; then the abort row.
-            a.expect_line(open(None), "0 10 10 0")
+            // Ten changes landed, each of which takes an undo row; then the abort row.
+            a.expect_line(open(None), "0 11 11 0")
         },
     },
     Case {
-        name: "counts: an abort of a hundred rows stores two full tails, and eight rows wait",
+        name: "counts: an abort of a hundred rows stores two full tails, and seven rows wait",
         play: |a| {
             formatted(a, None)?;
-            a.expect_line(begin(), "0 1 0 0")?;
+            a.expect_line(begin(), "0 1 1 0")?;
             ninety_nine_changes(a)?;
-            // Undo rows 101 to 199 and abort row 200: rows 65 to 128 are stored before row 129 is added, and
-            // rows 129 to 192 before row 193.
+            // Undo rows 101 to 199 and abort row 200: rows 66 to 129 are stored before row 130 is added, and
+            // rows 130 to 193 before row 194.
             a.expect_line(abort(1), "0 200 128 0")?;
-            a.expect_line(force(), "0 0 8 0")
+            a.expect_line(force(), "0 0 7 0")
         },
     },
     Case {
         name: "counts: an abort of a hundred rows cut in its first full tail, and in its second",
         play: |a| {
-            // Of each fuse 64 writes go to the change in row 65.
+            // Of each fuse one write goes to the begin, and 64 to the change in row 66.
             formatted(a, Some(100))?;
-            a.expect_line(begin(), "0 1 0 0")?;
+            a.expect_line(begin(), "0 1 1 0")?;
             ninety_nine_changes(a)?;
-            a.expect_line(abort(1), "5 0 36 0")?;
+            a.expect_line(abort(1), "5 0 35 0")?;
             formatted(a, Some(150))?;
-            a.expect_line(begin(), "0 1 0 0")?;
+            a.expect_line(begin(), "0 1 1 0")?;
             ninety_nine_changes(a)?;
-            a.expect_line(abort(1), "5 0 86 0")?;
+            a.expect_line(abort(1), "5 0 85 0")?;
             // 50 undo rows landed, and 49 changes are open.
             a.expect_line(open(Some(20)), "5 0 20 0")?;
             a.expect_line(open(Some(29)), "5 0 29 0")?;
@@ -161,9 +164,9 @@ pub const COUNTS: [Case; 13] = [
         name: "counts: refusals count none, whatever waits",
         play: |a| {
             formatted(a, None)?;
-            a.expect_line(begin(), "0 1 0 0")?;
-            a.expect_line(begin(), "0 2 0 0")?;
-            changes(a, 3..=64)?;
+            a.expect_line(begin(), "0 1 1 0")?;
+            a.expect_line(begin(), "0 2 1 0")?;
+            changes(a, 3..=66)?;
             a.expect_line(change(3, 0, 1), "9 0 0 0")?;
             a.expect_line(change(1, 224, 1), "10 0 0 0")?;
             a.expect_line(hand_over(1, 1, 0), "12 0 0 0")?;
@@ -186,9 +189,9 @@ pub const COUNTS: [Case; 13] = [
         name: "counts: a format counts none, whatever it blanks",
         play: |a| {
             formatted(a, None)?;
-            a.expect_line(begin(), "0 1 0 0")?;
+            a.expect_line(begin(), "0 1 1 0")?;
             a.expect_line(change(1, 0, 1), "0 2 0 0")?;
-            a.expect_line(flush(0), "0 0 2 1")?;
+            a.expect_line(flush(0), "0 0 1 1")?;
             a.expect_line(Step::Format(vec![7; CELLS]), "0 0 0 0")?;
             a.expect_line(begin(), "5 0 0 0")?;
             a.expect_line(open(None), "0 0 0 0")
@@ -198,14 +201,11 @@ pub const COUNTS: [Case; 13] = [
         name: "counts: after an opening refused by 1 the fuse runs on",
         play: |a| {
             formatted(a, Some(3))?;
-            a.expect_line(begin(), "0 1 0 0")?;
-            a.expect_line(force(), "0 0 1 0")?;
+            a.expect_line(begin(), "0 1 1 0")?;
             a.step(Step::Lend(Buffer::Log, 65_535))?;
             a.expect_line(open(None), "1 0 0 0")?;
-            a.expect_line(begin(), "0 2 0 0")?;
-            a.expect_line(force(), "0 0 1 0")?;
-            a.expect_line(begin(), "0 3 0 0")?;
-            a.expect_line(begin(), "0 4 0 0")?;
+            a.expect_line(begin(), "0 2 1 0")?;
+            changes(a, 3..=4)?;
             a.expect_line(force(), "5 0 1 0")
         },
     },
@@ -213,8 +213,7 @@ pub const COUNTS: [Case; 13] = [
         name: "counts: an opening that rejects the store counts none",
         play: |a| {
             formatted(a, None)?;
-            a.expect_line(begin(), "0 1 0 0")?;
-            a.expect_line(force(), "0 0 1 0")?;
+            a.expect_line(begin(), "0 1 1 0")?;
             a.step(Step::WriteCharts(2, vec![1]))?;
             a.expect_line(open(None), "4 0 0 0")?;
             a.step(Step::WriteLogByte(16, 9))?;
@@ -238,10 +237,10 @@ pub fn changes(arena: &mut Arena, rows: RangeInclusive<u16>) -> Outcome<()> {
     Ok(())
 }
 
-/// Visit 1, begun in row 1, changes cell 0 in rows 2 to 100. The first 64 rows are stored with row 65, and
-/// 36 wait in the end.
+/// Visit 1, begun in row 1, changes cell 0 in rows 2 to 100. The first 64 of them are stored with row 66, and
+/// 35 wait in the end.
 fn ninety_nine_changes(arena: &mut Arena) -> Outcome<()> {
-    changes(arena, 2..=64)?;
-    arena.expect_line(change(1, 0, 1), "0 65 64 0")?;
-    changes(arena, 66..=100)
+    changes(arena, 2..=65)?;
+    arena.expect_line(change(1, 0, 1), "0 66 64 0")?;
+    changes(arena, 67..=100)
 }

@@ -5,7 +5,7 @@ use super::sessions::{formatted, habits, next_call};
 use crate::arena::{Arena, Outcome};
 use crate::bench::{Bench, Failure};
 use crate::prng::Rng;
-use crate::steps::Step;
+use crate::steps::{begin, Step};
 
 /// A fuse that no case uses up.
 const LONG: u32 = 1_000_000;
@@ -15,11 +15,13 @@ pub fn play(bench: &mut Bench, seed: u64) -> Result<(), Failure> {
     let format = Step::Format(formatted(rng));
     let mut habits = habits(rng);
     let mut calls = rng.pick(&[6, 20, 60, 120]);
+    let mut first = vec![format, Step::Open(Some(LONG))];
     if seed % 4 == 0 {
-        // Nothing but full tails makes writes, so that begins, changes, hand-overs and aborts are cut. These
-        // cases are long, and so they are few: it does not go by chance whether the limits are among them.
+        // After the begins hardly anything but full tails makes writes, so that changes, hand-overs and
+        // aborts are cut. These cases are long, and so they are few: it does not go by chance whether the
+        // limits are among them.
         let turn = seed as usize / 4;
-        habits.weights = [20, 60, 30, 4, 0, 2, 0, 0, 1];
+        habits.weights = [1, 60, 30, 4, 0, 2, 0, 0, 1];
         habits.visits = [2, 16, 5, 16][turn % 4];
         habits.odd = [10, 1_000, 10][turn % 3];
         if turn % 4 == 1 {
@@ -27,9 +29,9 @@ pub fn play(bench: &mut Bench, seed: u64) -> Result<(), Failure> {
             habits.cells = (0..6).map(|index| 31 * index).collect();
         }
         calls = 200;
+        first.extend(vec![begin(); habits.visits]);
     }
 
-    let first = vec![format, Step::Open(Some(LONG))];
     let (writes, whole) = bench.case(|arena| {
         arena.steps(&first)?;
         for _ in 0..calls {
@@ -50,6 +52,8 @@ pub fn play(bench: &mut Bench, seed: u64) -> Result<(), Failure> {
             }
             arena.step(Step::Open(None))?;
             arena.step(Step::Open(Some(0)))?;
+            arena.step(Step::Open(Some(1)))?;
+            arena.step(begin())?;
             Ok(())
         })?;
     }

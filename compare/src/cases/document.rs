@@ -1,6 +1,7 @@
 //! Cases with the answers that documents 01 and 02 give: the twelve of 01's list, those of its text, the
-//! counts of 02's request L1, and the whole visits of L2.
+//! counts of 02's request L1, the whole visits of L2, and the begins of L4.
 
+use super::begins::BEGINS;
 use super::counts::COUNTS;
 use super::text::TEXT;
 use super::twelve::TWELVE;
@@ -17,12 +18,19 @@ pub struct Case {
     pub play: fn(&mut Arena) -> Outcome<()>,
 }
 
-pub const COUNT: u64 =
-    (TWELVE.len() + TEXT.len() + COUNTS.len() + WHOLE_VISITS.len() + WHOLE_VISIT_ROWS.len()) as u64;
+const LISTS: [&[Case]; 6] = [&TWELVE, &TEXT, &COUNTS, &WHOLE_VISITS, &WHOLE_VISIT_ROWS, &BEGINS];
+
+pub const COUNT: u64 = {
+    let (mut count, mut at) = (0, 0);
+    while at < LISTS.len() {
+        count += LISTS[at].len() as u64;
+        at += 1;
+    }
+    count
+};
 
 pub fn play(bench: &mut Bench, seed: u64) -> Result<(), Failure> {
-    let lists: [&[Case]; 5] = [&TWELVE, &TEXT, &COUNTS, &WHOLE_VISITS, &WHOLE_VISIT_ROWS];
-    if let Some(case) = lists.into_iter().flatten().nth(seed as usize) {
+    if let Some(case) = LISTS.into_iter().flatten().nth(seed as usize) {
         bench.case(case.play)?;
     }
     Ok(())

@@ -19,15 +19,18 @@ pub fn play(bench: &mut Bench, seed: u64) -> Result<(), Failure> {
     let rows =
         if seed % CALLS == ABORT { rng.pick(&[64, 128, 192]) } else { rng.pick(&[63, 64, 64, 64]) };
     let format = Step::Format(formatted(rng));
-    // Begins, changes and hand-overs, none of which stores a row while there is room in the tail. A visit that
-    // was handed over whole has to start its scopes anew, so half of the cases do without.
+    // After the begins come changes and hand-overs, none of which stores a row while there is room in the
+    // tail. A visit that was handed over whole has to start its scopes anew, so half of the cases do without.
     let whole_visits = [0, 6][(seed / CALLS % 2) as usize];
-    let weights = [8, 60, 20, whole_visits, 0, 0, 0, 0, 0];
-    let habits = Habits { weights, visits: rng.pick(&[2, 3, 8]), odd: 1_000, ..habits(rng) };
+    let weights = [0, 60, 20, whole_visits, 0, 0, 0, 0, 0];
+    let habits = Habits { weights, visits: rng.pick(&[2, 3, 3, 8, 8, 16]), odd: 1_000, ..habits(rng) };
     let ((before, writes), whole) = bench.case(|arena| {
         arena.step(format)?;
         arena.step(open(Some(LONG)))?;
-        while arena.ledger().rows.len() < rows {
+        for _ in 0..habits.visits {
+            arena.step(begin())?;
+        }
+        while arena.ledger().rows.len() < habits.visits + rows {
             let call = next_call(rng, &habits, arena.ledger());
             arena.step(Step::Call(call))?;
         }
@@ -47,6 +50,7 @@ pub fn play(bench: &mut Bench, seed: u64) -> Result<(), Failure> {
             arena.steps(&cut)?;
             arena.step(open(Some(rng.below(8) as u32)))?;
             arena.step(open(None))?;
+            arena.step(begin())?;
             Ok(())
         })?;
     }

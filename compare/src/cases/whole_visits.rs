@@ -16,8 +16,7 @@ pub const WHOLE_VISITS: [Case; 14] = [
             two_visits_with_two_cells(a)?;
             a.expect_line(change(1, 223, 30), "0 5 0 0")?;
             a.expect_line(hand_over_all(1, 2), "0 6 0 0")?;
-            a.expect_line(begin(), "0 3 0 0")?;
-            a.expect_line(force(), "0 0 7 0")?;
+            a.expect_line(force(), "0 0 4 0")?;
             if a.paper.log[16 * 5..16 * 6] != [7, 1, 2, 0, 6, 0, 0, 0, 0, 0, 0, 0, 0, 0, 0, 0] {
                 return a.differs("row 6 has kind 7, giver 1, receiver 2 and its number");
             }
@@ -93,7 +92,7 @@ pub const WHOLE_VISITS: [Case; 14] = [
             two_visits_with_two_cells(a)?;
             a.expect_line(hand_over_all(1, 2), "0 5 0 0")?;
             a.expect_line(abort(1), "0 6 0 0")?;
-            a.expect_line(commit(2), "0 7 7 0")?;
+            a.expect_line(commit(2), "0 7 5 0")?;
             a.expect_line(open(None), "0 0 0 0")?;
             a.expect_line(read(0), "0 10 0 0")?;
             a.expect_line(read(7), "0 20 0 0")
@@ -106,7 +105,7 @@ pub const WHOLE_VISITS: [Case; 14] = [
             two_visits_with_two_cells(a)?;
             a.expect_line(change(2, 0, 5), "0 5 0 0")?;
             a.expect_line(hand_over_all(1, 2), "0 6 0 0")?;
-            a.expect_line(commit(1), "0 7 7 0")?;
+            a.expect_line(commit(1), "0 7 5 0")?;
             a.expect_line(abort(2), "0 11 0 0")?;
             undone_by(a, 2, &[5, 4, 3])?;
             a.expect_line(read(0), "0 0 0 0")?;
@@ -246,8 +245,8 @@ pub const WHOLE_VISITS: [Case; 14] = [
             a.expect(change(2, 63, 1), 11, 0)?;
             a.expect(hand_over_all(2, 1), 0, 68)?;
             a.expect(change(1, 63, 1), 11, 0)?;
-            // Rows 1 to 64 were stored with row 65.
-            a.expect_line(commit(1), "0 69 5 0")?;
+            // Rows 3 to 66 were stored with row 67.
+            a.expect_line(commit(1), "0 69 3 0")?;
             in_use(a, 0)?;
             a.expect(change(2, 63, 1), 0, 70)?;
             a.expect(read(63), 0, 2)
@@ -256,8 +255,8 @@ pub const WHOLE_VISITS: [Case; 14] = [
     Case {
         name: "whole visit: cut before its row is stored, the changes are the giver's",
         play: |a| {
-            // The commit has rows 1 to 6 to store. Row 5 hands over.
-            for (fuse, line, holder) in [(4, "5 0 4 0", 1), (5, "5 0 5 0", 2)] {
+            // The commit has rows 3 to 6 to store. Row 5 hands over.
+            for (fuse, line, holder) in [(4, "5 0 2 0", 1), (5, "5 0 3 0", 2)] {
                 formatted(a, Some(fuse))?;
                 two_visits_with_two_cells(a)?;
                 a.expect_line(hand_over_all(1, 2), "0 5 0 0")?;
@@ -269,7 +268,7 @@ pub const WHOLE_VISITS: [Case; 14] = [
             formatted(a, Some(6))?;
             two_visits_with_two_cells(a)?;
             a.expect_line(hand_over_all(1, 2), "0 5 0 0")?;
-            a.expect_line(commit(2), "0 6 6 0")?;
+            a.expect_line(commit(2), "0 6 4 0")?;
             a.expect_line(open(None), "0 1 1 0")?;
             a.expect_line(read(0), "0 10 0 0")?;
             a.expect_line(read(7), "0 20 0 0")
@@ -278,14 +277,14 @@ pub const WHOLE_VISITS: [Case; 14] = [
     Case {
         name: "whole visit: a full tail is stored first, and its own row waits",
         play: |a| {
-            for (fuse, line) in [(0, "5 0 0 0"), (10, "5 0 10 0"), (63, "5 0 63 0"), (64, "0 65 64 0")]
+            for (fuse, line) in [(2, "5 0 0 0"), (12, "5 0 10 0"), (65, "5 0 63 0"), (66, "0 67 64 0")]
             {
                 formatted(a, Some(fuse))?;
-                a.expect_line(begin(), "0 1 0 0")?;
-                a.expect_line(begin(), "0 2 0 0")?;
-                changes(a, 3..=64)?;
+                a.expect_line(begin(), "0 1 1 0")?;
+                a.expect_line(begin(), "0 2 1 0")?;
+                changes(a, 3..=66)?;
                 a.expect_line(hand_over_all(1, 2), line)?;
-                // Each change that landed takes an undo row and each begin an abort row; row 65 is lost.
+                // Each change that landed takes an undo row and each begin an abort row; row 67 is lost.
                 let landed = i64::from(fuse);
                 a.expect(open(None), 0, landed)?;
                 let undone: Vec<u16> = (3..=fuse as u16).rev().collect();
@@ -298,8 +297,8 @@ pub const WHOLE_VISITS: [Case; 14] = [
 
 /// Visits 1 and 2 begin, and visit 1 adds 10 g to cell 0 and 20 g to cell 7.
 fn two_visits_with_two_cells(arena: &mut Arena) -> Outcome<()> {
-    arena.expect_line(begin(), "0 1 0 0")?;
-    arena.expect_line(begin(), "0 2 0 0")?;
+    arena.expect_line(begin(), "0 1 1 0")?;
+    arena.expect_line(begin(), "0 2 1 0")?;
     arena.expect_line(change(1, 0, 10), "0 3 0 0")?;
     arena.expect_line(change(1, 7, 20), "0 4 0 0")
 }

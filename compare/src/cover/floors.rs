@@ -34,7 +34,7 @@ pub const TABLES: [Table; 5] = [PLAYED, ANSWERS, PAIRS, WRITES, SHAPES];
 pub const PLAYED: Table = Table {
     title: "cases and calls, by part",
     lines: &[
-        ("document", &[("cases", 25), ("calls", 5_000)]),
+        ("document", &[("cases", 28), ("calls", 6_800)]),
         ("short", &[("cases", 9_500), ("calls", 95_000)]),
         ("sessions", &[("cases", 550), ("calls", 82_000)]),
         ("rows", &[("cases", 3_300), ("calls", 7_500)]),
@@ -42,29 +42,29 @@ pub const PLAYED: Table = Table {
         ("damage", &[("cases", 290), ("calls", 29_000)]),
         ("garbage", &[("cases", 220), ("calls", 53_000)]),
         ("run files", &[("cases", 360), ("calls", 19_000)]),
-        ("cuts", &[("cases", 820), ("calls", 100_000)]),
+        ("cuts", &[("cases", 950), ("calls", 120_000)]),
         ("full tails", &[("cases", 590), ("calls", 52_000)]),
         ("crowded", &[("cases", 24), ("calls", 3_900)]),
         ("pages alone", &[("cases", 200), ("calls", 19_000)]),
         ("all visits", &[("cases", 2), ("calls", 4_400)]),
         ("all scopes", &[("cases", 24), ("calls", 12_000)]),
         ("full rows", &[("cases", 38), ("calls", 86)]),
-        ("full log", &[("cases", 2), ("calls", 4_700)]),
+        ("full log", &[("cases", 1), ("calls", 4_700)]),
     ],
 };
 
 /// How calls end in RAM or buffers that a host has altered. Each store has to meet each of them as often.
 pub const ALTERED: &[Floor] = &[
     ("done", 400),
-    ("done under a fuse", 560),
+    ("done under a fuse", 490),
     ("refused by 1, a buffer too long", 2_200),
     ("refused by 1, a buffer too short", 3_700),
     ("refused by another number", 1_400),
     ("5, the store is closed", 1_100),
     ("5, counters beyond their limits", 630),
-    ("5, power failed", 53),
-    ("5, the log is full", 8),
-    ("done, rows counted", 180),
+    ("5, power failed", 62),
+    ("5, the log is full", 7),
+    ("done, rows counted", 310),
     ("done, a page counted", 130),
-    ("5, rows counted", 40),
+    ("5, rows counted", 46),
 ];

@@ -76,6 +76,13 @@ pub fn append(ram: &mut Ram, lent: &mut Lent, mut row: Row) -> Result<u16, Stopp
     Ok(row.number)
 }
 
+/// A row that is stored, after all that wait, before its call returns: of begin and commit.
+pub fn append_and_force(ram: &mut Ram, lent: &mut Lent, row: Row) -> Result<u16, Stopped> {
+    let number = append(ram, lent, row)?;
+    force_all(ram, lent)?;
+    Ok(number)
+}
+
 /// Puts a row of an opening straight into the log. The rows of an opening are all forced in the end,
 /// so this makes the same writes in the same order as the tail would.
 pub fn store_row(ram: &mut Ram, lent: &mut Lent, mut row: Row) -> Result<(), Stopped> {

@@ -13,10 +13,10 @@ pub fn done_call(cover: &mut Cover, call: Call, before: &Moment, writes: Writes)
     let Writes { rows, pages } = writes;
     match call {
         // Their own row waits: what they store are rows of other calls.
-        Call::Begin | Call::Change { .. } | Call::HandOver { .. } | Call::HandOverAll { .. } => {
+        Call::Change { .. } | Call::HandOver { .. } | Call::HandOverAll { .. } => {
             cover.writes_if(rows == 64, place, "full tail stored first");
         }
-        Call::Commit { .. } => {
+        Call::Begin | Call::Commit { .. } => {
             cover.writes_if(rows == 1, place, "its own row stored");
             cover.writes_if(rows > 1, place, "rows that waited stored too");
             cover.writes_if(rows == 65 && before.waiting == 64, place, "full tail stored first");
@@ -42,14 +42,16 @@ pub fn cut_call(cover: &mut Cover, call: Call, before: &Moment, writes: Writes) 
     let landed = usize::from(writes.rows);
     cover.writes_if(landed == 0, place, "cut at the first write");
     match call {
-        Call::Begin | Call::Change { .. } | Call::HandOver { .. } | Call::HandOverAll { .. } => {
+        Call::Change { .. } | Call::HandOver { .. } | Call::HandOverAll { .. } => {
             cover.writes_if(landed > 0, place, "cut between rows of a full tail");
         }
-        Call::Commit { .. } => {
+        Call::Begin | Call::Commit { .. } => {
             let all_landed = landed == before.waiting;
             cover.writes_if(landed > 0 && !all_landed, place, "cut between rows");
             cover.writes_if(landed > 0 && all_landed, place, "cut at its own row");
-            cover.writes_if(before.waiting == 64 && landed < 64, place, "cut in a full tail");
+            let full = before.waiting == 64;
+            cover.writes_if(full && landed < 64, place, "cut in a full tail");
+            cover.writes_if(full && landed == 64, place, "cut after a full tail");
         }
         Call::Abort { .. } => {
             cover.writes_if(landed > 0 && landed < 64, place, "cut between rows of a full tail");

@@ -1,16 +1,15 @@
 -- Calls at the limits of document 01: the last call that is accepted, and the number that the next one is refused by. All hold by computing, those over
 -- a full log from what its rows come to. Cell 224 of a change, the 17th begin and one visit's 2,048th change are among the marked cases (Cases).
-use Prim.Native.Nat.{ℕ, _*_}
 use mathlib.Core.Path.{_≡_, refl}
 use mathlib.Core.Bool.{true}
 use mathlib.Core.List.{List, [], _∷_, _++_, map, append-nil}
-use lib.ListN.{replicate}
+use lib.ListN.{replicate, take}
 use lib.IntN.{pos}
-use Rattle.book.specs.Lists.{tabulate, join}
+use Rattle.book.specs.Lists.{tabulate}
 use Rattle.book.specs.Rows.{Row}
 use Rattle.book.specs.Rules.{allowedLog}
 use Rattle.book.specs.Calls.{Call}
-use Rattle.book.specs.Power.{Fuse, left, formatted}
+use Rattle.book.specs.Power.{Book, Fuse, left, formatted, closed}
 use Rattle.book.specs.Book.{refused, done, refusedBy}
 use Rattle.book.specs.Events.{Event, opens, calls, happens, bookAfter}
 use Rattle.book.specs.Cases.{session, Gives, then}
@@ -20,32 +19,58 @@ use Rattle.book.proofs.FullLogs.{rows4091, rows4092, rows4093, comes-40
 
 -- ── The tail ──────────────────────────────────────────────────────────────────────────────────────────────────────────
 
--- n visits that begin and abort: 2 n rows, which wait
-abbrev shortVisits : ℕ → List Call
-shortVisits n = join (tabulate n 1 (λ v. Call.begin ∷ Call.abort v ∷ []))
-
-abbrev shortRows : ℕ → List Row
-shortRows n = join (tabulate n 1 (λ v. Row.begin v ∷ Row.abort v ∷ []))
-
--- 64 rows, in a session with this fuse
+-- a visit, and 64 changes by it, in a session with this fuse: the begin row is stored, and 64 rows wait
 abbrev rows64 : Fuse → List Event
-rows64 f = opens true f ∷ map (calls true) (shortVisits 32)
+rows64 f = opens true f ∷ calls true Call.begin ∷ replicate 64 (calls true (Call.change 1 0 (pos 1)))
 
--- 01: "a tail of at most 64 rows not yet stored". No write lands, and each of the calls is done.
-pub tail-takes-64 : Gives zeros (rows64 (left 0)) (done (pos 0) ∷ join (tabulate 32 1 (λ v. done (pos v) ∷ done (pos (2 * v)) ∷ [])))
+-- the rows
+abbrev visitAnd64 : List Row
+visitAnd64 = Row.begin 1 ∷ replicate 64 (Row.change 1 0 (pos 1))
+
+-- one change more
+abbrev oneMore : Event
+oneMore = calls true (Call.change 1 0 (pos 1))
+
+-- 01: "a tail of at most 64 rows not yet stored". After that of the begin no write lands, and each of the calls is done.
+pub tail-takes-64 : Gives zeros (rows64 (left 1)) (done (pos 0) ∷ done (pos 1) ∷ tabulate 64 2 (λ n. done (pos n)))
 unfolding computes
 tail-takes-64 = refl
 
--- 01: "if the tail holds 64 rows it is forced first". The first write fails, so nothing is stored.
-pub row-65-is-refused : happens zeros (bookAfter zeros formatted (rows64 (left 0))) (calls true Call.begin) ≡ refused 5 formatted
+-- 01: "if the tail holds 64 rows it is forced first". The first write fails, so nothing more is stored.
+pub row-65-is-refused : happens zeros (bookAfter zeros formatted (rows64 (left 1))) oneMore ≡ refused 5 (closed (Row.begin 1 ∷ []))
 unfolding computes
 row-65-is-refused = refl
 
 -- The 64 writes land, and the row waits.
-pub row-65-waits : bookAfter zeros formatted (rows64 (left 64) ++ (calls true Call.begin ∷ [])) ≡
-    record { stored = shortRows 32; waiting = Row.begin 33 ∷ []; fuse = left 0; isOpen = true }
+pub row-65-waits : bookAfter zeros formatted (rows64 (left 65) ++ (oneMore ∷ [])) ≡
+    record { stored = visitAnd64; waiting = Row.change 1 0 (pos 1) ∷ []; fuse = left 0; isOpen = true }
 unfolding computes
 row-65-waits = refl
+
+-- 02, L4: "Begin shall force the log before it returns." The 64 rows and its own are stored, 65 writes.
+pub begin-of-full-tail : happens zeros (bookAfter zeros formatted (rows64 (left 66))) (calls true Call.begin) ≡
+    record { answer = done (pos 2); book = record { stored = visitAnd64 ++ (Row.begin 2 ∷ []); waiting = []; fuse = left 0; isOpen = true } }
+unfolding computes
+begin-of-full-tail = refl
+
+-- With one write less the 64 rows are stored and its own is not.
+pub begin-cut-at-its-row : happens zeros (bookAfter zeros formatted (rows64 (left 65))) (calls true Call.begin) ≡ refused 5 (closed visitAnd64)
+unfolding computes
+begin-cut-at-its-row = refl
+
+-- Power fails among the 64.
+pub begin-cut-in-the-tail : happens zeros (bookAfter zeros formatted (rows64 (left 30))) (calls true Call.begin) ≡ refused 5 (closed (take 30 visitAnd64))
+unfolding computes
+begin-cut-in-the-tail = refl
+
+-- sixteen visits are active, 64 rows wait and no write is left
+abbrev sixteenAnd64 : Book
+sixteenAnd64 = record { stored = tabulate 16 1 Row.begin; waiting = replicate 64 (Row.change 1 0 (pos 1)); fuse = left 0; isOpen = true }
+
+-- The checks come before the force.
+pub full-tail-begin-refused : happens zeros sixteenAnd64 (calls true Call.begin) ≡ refused 7 sixteenAnd64
+unfolding computes
+full-tail-begin-refused = refl
 
 -- ── Visits ────────────────────────────────────────────────────────────────────────────────────────────────────────────
 

@@ -3,6 +3,7 @@ use Prim.Native.Nat.{ℕ, suc, _-_, _≤_}
 use native.Mathlib.Omega.{arith}
 use mathlib.Core.Path.{_≡_, refl, ap, sym, _∙_, subst}
 use mathlib.Core.Bool.{Bool, true, false}
+use mathlib.Core.Logic.{_≢_}
 use mathlib.Core.List.{List, [], _∷_, _++_, append-assoc, append-nil}
 use lib.ListN.{length, length-append}
 use lib.Seq.{getD-at}
@@ -15,7 +16,7 @@ use Rattle.book.specs.Ledger.{Change, Ledger, after}
 use Rattle.book.specs.Rules.{allowedLog}
 use Rattle.book.specs.Cells.{isKept}
 use Rattle.book.specs.Calls.{Call, Ending, forces, ending}
-use Rattle.book.specs.Power.{Book, Fuse, rowsOf, ledgerOf, addAll}
+use Rattle.book.specs.Power.{Book, Fuse, rowsOf, ledgerOf, force, addAll}
 use Rattle.book.specs.Book.{adds, finish, through, value, Answer, Outcome, call, opening}
 use Rattle.book.specs.Pages.{rowAt}
 use Rattle.book.specs.Events.{Event, opens, calls, happens, bookAfter}
@@ -23,8 +24,8 @@ use Rattle.book.specs.Logs.{Logged, InSum, Sound}
 use Rattle.book.proofs.Lists.{or-l, starts-refl, starts-trans}
 use Rattle.book.proofs.Logs.{ledger-append}
 use Rattle.book.proofs.Fate.{kept-stays}
-use Rattle.book.proofs.Steps.{extends-through, extends-open}
-use Rattle.book.proofs.Force.{force-empties}
+use Rattle.book.proofs.Steps.{bookOf, extends-through, extends-open}
+use Rattle.book.proofs.Force.{force-empties, force-part, add-then-force}
 use Rattle.book.proofs.Sound.{ended-book, Decided, refuses, accepts, decided, opening-book, TypedEvents, sound-event}
 use Rattle.book.proofs.Openings.{ended-open, ended-done}
 
@@ -84,6 +85,32 @@ forced-done cells b lengths k r s fc one d = go (decided cells b lengths k)
               forced-stored b k r s fc one opened;
           value = ap (λ (x : Outcome). x .answer .value) e ∙ ap (λ (a : Answer). a .value) (ended-done _ (through b k) opened);
         }
+
+-- all its writes are one force, its own row the last
+forced-by : (b : Book) (k : Call) (r : Row) → ending k ≡ forces → adds b k ≡ r ∷ [] → b .isOpen ≡ true
+    → through b k ≡ force (bookOf (b .stored) (b .waiting ++ (r ∷ [])) (b .fuse) true)
+unfolding through
+forced-by b k r fc one o =
+    ap (λ (e : Ending). finish e (addAll b (adds b k))) fc ∙ ap (λ (l : List Row). force (addAll b l)) one ∙
+    ap (λ (t : Bool). force (addAll (bookOf (b .stored) (b .waiting) (b .fuse) t) (r ∷ []))) o ∙ add-then-force (r ∷ []) (b .waiting) (b .stored) (b .fuse)
+
+-- not answered done, whether a check refused it or the power failed: what is stored is a first part of the rows before it, and its own is not
+pub forced-not-done : (cells : ℕ → ℤ) (b : Book) (lengths : Bool) (k : Call) (r : Row) → ending k ≡ forces → adds b k ≡ r ∷ []
+    → call cells b lengths k .answer .number ≢ 0 → StartsWith (call cells b lengths k .book .stored) (rowsOf b)
+forced-not-done cells b lengths k r fc one d = go (decided cells b lengths k)
+  where
+    go : Decided cells b lengths k (call cells b lengths k) → StartsWith (call cells b lengths k .book .stored) (rowsOf b)
+    go (refuses n e) = subst (λ (o : Outcome). StartsWith (o .book .stored) (rowsOf b)) (sym e) (b .waiting, refl)
+    go (accepts l o z e) = its (through b k .isOpen) refl
+      where
+        forced : through b k ≡ force (bookOf (b .stored) (b .waiting ++ (r ∷ [])) (b .fuse) true)
+        forced = forced-by b k r fc one o
+
+        its : (t : Bool) → through b k .isOpen ≡ t → StartsWith (call cells b lengths k .book .stored) (rowsOf b)
+        its true i = absurd (d (ap (λ (x : Outcome). x .answer .number) e ∙ ap (λ (a : Answer). a .number) (ended-done _ (through b k) i)))
+        its false i =
+            subst (λ (c : Book). StartsWith (c .stored) (rowsOf b)) (sym (ap (λ (x : Outcome). x .book) e ∙ ended-book (value cells b k) (through b k) ∙ forced))
+            (force-part (b .stored) (b .waiting) r (b .fuse) (ap (λ (c : Book). c .isOpen) (sym forced) ∙ i))
 
 -- what it leaves in each later log: its row
 pub record RowLasts (b : Book) (r : Row) (later : List Row) : Type 0 where

@@ -5,9 +5,11 @@ use native.Mathlib.Omega.{arith}
 use mathlib.Core.Path.{_≡_, refl, ap, ap₂, sym, _∙_}
 use mathlib.Core.Bool.{Bool, true, false, cond}
 use mathlib.Core.List.{List, [], _∷_, _++_, append-assoc, append-nil}
-use lib.ListN.{length, take}
-use lib.Dec.{leb}
-use Rattle.book.specs.Lists.{times}
+use lib.ListN.{length, length-append, take, drop, take-append-drop}
+use lib.Seq.{take-append-le}
+use lib.Dec.{leb, ltb}
+use borrow.Author.Tests.{ltb-true, ltb-false}
+use Rattle.book.specs.Lists.{times, StartsWith}
 use Rattle.book.specs.Limits.{tailLimit}
 use Rattle.book.specs.Rows.{Row}
 use Rattle.book.specs.Ledger.{ledger}
@@ -63,6 +65,21 @@ cut (r ∷ w) s (suc m) h = cut w (s ++ (r ∷ [])) m (omega arith) ∙ ap close
 pub force-cut : (s w : List Row) (m : ℕ) → m < length w → force (bookOf s w (left m) true) ≡ closed (s ++ take m w)
 unfolding force
 force-cut s w m h = cut w s m h
+
+-- the power fails in the force of some rows and one more: that one, the last of the writes, is not stored
+pub force-part : (s w : List Row) (r : Row) (f : Fuse) → force (bookOf s (w ++ (r ∷ [])) f true) .isOpen ≡ false
+    → StartsWith (force (bookOf s (w ++ (r ∷ [])) f true) .stored) (s ++ w)
+force-part s w r none o = clash _ (ap (λ (b : Book). b .isOpen) (force-lands s (w ++ (r ∷ [])) none tt)) o
+force-part s w r (left m) o = go (ltb m (length (w ++ (r ∷ [])))) refl
+  where
+    go : (t : Bool) → ltb m (length (w ++ (r ∷ []))) ≡ t → StartsWith (force (bookOf s (w ++ (r ∷ [])) (left m) true) .stored) (s ++ w)
+    go true h =
+        let few = ltb-true m (length (w ++ (r ∷ []))) h in
+        let n = length-append w (r ∷ []) in
+        let is = ap (λ (b : Book). b .stored) (force-cut s (w ++ (r ∷ [])) m few) ∙ ap (λ (l : List Row). s ++ l) (take-append-le m w (r ∷ []) (omega arith)) in
+        (drop m w, ap (λ (l : List Row). s ++ l) (sym (take-append-drop m w)) ∙ sym (append-assoc s (take m w) (drop m w)) ∙ ap (λ (l : List Row). l ++ drop m w) (sym is))
+    go false h =
+        clash _ (ap (λ (b : Book). b .isOpen) (force-lands s (w ++ (r ∷ [])) (left m) (ltb-false m (length (w ++ (r ∷ []))) h))) o
 
 -- ── Added with forces between, or stored in one go ────────────────────────────────────────────────────────────────────
 

@@ -27,6 +27,7 @@ pub mod HeldCells
 pub mod Sound
 pub mod Openings
 pub mod Claims
+pub mod Begins
 pub mod Writes
 pub mod SessionWrites
 pub mod Reopened

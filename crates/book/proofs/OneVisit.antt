@@ -133,7 +133,7 @@ many-more (suc n) i b a h = rw (suc-add n i) (rw (← add-suc n i) (many-more n 
 
 begun : Filled (bookAfter zeros formatted (opens true none ∷ calls true Call.begin ∷ [])) 0
 unfolding after reserve scopesInUse force add takeBack refusal adds through value accepted call reopened reopen opening
-begun = record { stored = []; waiting = Row.begin 1 ∷ []; is = refl; comes = refl }
+begun = record { stored = Row.begin 1 ∷ []; waiting = []; is = refl; comes = refl }
 
 -- the book after a begin and n changes
 pub filled : (n : ℕ) → n ≤ 2047 → Filled (bookAfter zeros formatted (changesOf n)) n

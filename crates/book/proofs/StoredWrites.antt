@@ -3,7 +3,7 @@
 use mathlib.Core.Path.{_≡_, refl}
 use mathlib.Core.Bool.{true}
 use mathlib.Core.List.{List, [], _∷_, _++_, map}
-use lib.ListN.{take}
+use lib.ListN.{replicate, take}
 use lib.IntN.{pos}
 use Rattle.book.specs.Rows.{Row}
 use Rattle.book.specs.Calls.{Call}
@@ -28,35 +28,43 @@ openBook st wa f = record { stored = st; waiting = wa; fuse = f; isOpen = true }
 
 -- ── Force ─────────────────────────────────────────────────────────────────────────────────────────────────────────────
 
-abbrev twoBegins : List Call
-twoBegins = Call.begin ∷ Call.begin ∷ Call.force ∷ []
+-- the force has two rows to store; that of the begin is stored before
+abbrev twoChanges : List Call
+twoChanges = Call.begin ∷ Call.change 1 0 (pos 5) ∷ Call.change 1 1 (pos 6) ∷ Call.force ∷ []
+
+abbrev threeRows : List Row
+threeRows = Row.begin 1 ∷ Row.change 1 0 (pos 5) ∷ Row.change 1 1 (pos 6) ∷ []
 
 -- 01: "the number of stored writes that still land"
-pub both-writes-land : afterSession (left 3) twoBegins ≡ openBook (visits 2) [] (left 1)
+pub both-writes-land : afterSession (left 4) twoChanges ≡ openBook threeRows [] (left 1)
 unfolding computes
 both-writes-land = refl
 
 -- the last write that lands leaves the book open
-pub last-write-lands : afterSession (left 2) twoBegins ≡ openBook (visits 2) [] (left 0)
+pub last-write-lands : afterSession (left 3) twoChanges ≡ openBook threeRows [] (left 0)
 unfolding computes
 last-write-lands = refl
 
 -- 01: "the write after the last one doesn't land"
-pub no-write-lands : afterSession (left 0) twoBegins ≡ closed []
+pub no-write-lands : afterSession (left 0) twoChanges ≡ closed []
 unfolding computes
 no-write-lands = refl
 
-pub second-write-fails : afterSession (left 1) twoBegins ≡ closed (visits 1)
+pub first-write-fails : afterSession (left 1) twoChanges ≡ closed (take 1 threeRows)
+unfolding computes
+first-write-fails = refl
+
+pub second-write-fails : afterSession (left 2) twoChanges ≡ closed (take 2 threeRows)
 unfolding computes
 second-write-fails = refl
 
-pub second-write-refused : Gives zeros (sessionWith (left 1) twoBegins) (done (pos 0) ∷ done (pos 1) ∷ done (pos 2) ∷ refusedBy 5 ∷ [])
+pub second-write-refused : Gives zeros (sessionWith (left 2) twoChanges) (done (pos 0) ∷ done (pos 1) ∷ done (pos 2) ∷ done (pos 3) ∷ refusedBy 5 ∷ [])
 unfolding computes
 second-write-refused = refl
 
 -- with no write left the store is open until one is tried
-pub open-with-none-left : Gives zeros (sessionWith (left 2) (twoBegins ++ (Call.begin ∷ Call.read 0 ∷ Call.force ∷ Call.read 0 ∷ [])))
-    (done (pos 0) ∷ done (pos 1) ∷ done (pos 2) ∷ done (pos 0) ∷ done (pos 3) ∷ done (pos 0) ∷ refusedBy 5 ∷ refusedBy 5 ∷ [])
+pub open-with-none-left : Gives zeros (sessionWith (left 3) (twoChanges ++ (Call.change 1 0 (pos 1) ∷ Call.read 0 ∷ Call.force ∷ Call.read 0 ∷ [])))
+    (done (pos 0) ∷ done (pos 1) ∷ done (pos 2) ∷ done (pos 3) ∷ done (pos 0) ∷ done (pos 4) ∷ done (pos 6) ∷ refusedBy 5 ∷ refusedBy 5 ∷ [])
 unfolding computes
 open-with-none-left = refl
 
@@ -66,7 +74,7 @@ unfolding computes
 commit-forces = refl
 
 -- 01: abort "doesn't force"
-pub abort-waits : afterSession (left 5) (Call.begin ∷ Call.abort 1 ∷ []) ≡ openBook [] (Row.begin 1 ∷ Row.abort 1 ∷ []) (left 5)
+pub abort-waits : afterSession (left 5) (Call.begin ∷ Call.abort 1 ∷ []) ≡ openBook (Row.begin 1 ∷ []) (Row.abort 1 ∷ []) (left 4)
 unfolding computes
 abort-waits = refl
 
@@ -75,14 +83,59 @@ abbrev twoCells : List Call
 twoCells = Call.begin ∷ Call.begin ∷ Call.change 1 0 (pos 1) ∷ Call.change 1 7 (pos 1) ∷ []
 
 pub hand-over-waits : afterSession (left 5) (twoCells ++ (Call.handOver 1 2 0 ∷ [])) ≡
-    openBook [] (visits 2 ++ (Row.change 1 0 (pos 1) ∷ Row.change 1 7 (pos 1) ∷ Row.handOver 1 2 0 ∷ [])) (left 5)
+    openBook (visits 2) (Row.change 1 0 (pos 1) ∷ Row.change 1 7 (pos 1) ∷ Row.handOver 1 2 0 ∷ []) (left 3)
 unfolding computes
 hand-over-waits = refl
 
 pub whole-visit-waits : afterSession (left 5) (twoCells ++ (Call.handOverAll 1 2 ∷ [])) ≡
-    openBook [] (visits 2 ++ (Row.change 1 0 (pos 1) ∷ Row.change 1 7 (pos 1) ∷ Row.handOverAll 1 2 ∷ [])) (left 5)
+    openBook (visits 2) (Row.change 1 0 (pos 1) ∷ Row.change 1 7 (pos 1) ∷ Row.handOverAll 1 2 ∷ []) (left 3)
 unfolding computes
 whole-visit-waits = refl
+
+-- ── Begin ─────────────────────────────────────────────────────────────────────────────────────────────────────────────
+
+-- a visit with a change, and a second visit
+abbrev beginTwice : List Call
+beginTwice = Call.begin ∷ Call.change 1 0 (pos 5) ∷ Call.begin ∷ []
+
+abbrev beginTwiceRows : List Row
+beginTwiceRows = Row.begin 1 ∷ Row.change 1 0 (pos 5) ∷ Row.begin 2 ∷ []
+
+-- 02, L4: "Begin shall force the log before it returns": its row where nothing waits, and else what waits and its row
+pub begin-forces : afterSession (left 2) (Call.begin ∷ []) ≡ openBook (visits 1) [] (left 1)
+unfolding computes
+begin-forces = refl
+
+pub begin-forces-tail : afterSession (left 3) beginTwice ≡ openBook beginTwiceRows [] (left 0)
+unfolding computes
+begin-forces-tail = refl
+
+-- power fails at its row, which is then in no log
+pub begin-cut : afterSession (left 2) beginTwice ≡ closed (take 2 beginTwiceRows)
+unfolding computes
+begin-cut = refl
+
+-- power fails at the row that waits
+pub begin-cut-before : afterSession (left 1) beginTwice ≡ closed (take 1 beginTwiceRows)
+unfolding computes
+begin-cut-before = refl
+
+-- It answers 5 and has no number: the next begin that is done gets the number 2. The opening between wrote an undo row and an abort row.
+pub number-of-cut-begin : Gives zeros (sessionWith (left 2) beginTwice ++ sessionWith none (Call.begin ∷ []))
+    (done (pos 0) ∷ done (pos 1) ∷ done (pos 2) ∷ refusedBy 5 ∷ done (pos 2) ∷ done (pos 2) ∷ [])
+unfolding computes
+number-of-cut-begin = refl
+
+-- 02, L4: a number that was given is not given again, though nothing was forced after the begin and the visit is aborted by the opening
+pub number-not-again : Gives zeros (sessionWith none (Call.begin ∷ []) ++ sessionWith none (Call.begin ∷ [])) (done (pos 0) ∷ done (pos 1) ∷ done (pos 1) ∷ done (pos 2) ∷ [])
+unfolding computes
+number-not-again = refl
+
+-- a begin that is refused forces nothing: sixteen visits are active, no write is left, and the change goes on waiting
+pub refused-begin-waits : afterSession (left 16) (replicate 16 Call.begin ++ (Call.change 1 0 (pos 5) ∷ Call.begin ∷ [])) ≡
+    openBook (visits 16) (Row.change 1 0 (pos 5) ∷ []) (left 0)
+unfolding computes
+refused-begin-waits = refl
 
 -- ── Flush ─────────────────────────────────────────────────────────────────────────────────────────────────────────────
 
@@ -96,14 +149,19 @@ pub flush-up-to-mark : afterSession none (twoPages ++ (Call.flush 0 ∷ [])) ≡
 unfolding computes
 flush-up-to-mark = refl
 
--- 01: "then writes the page, also if unchanged": two rows and the page, then the page alone
+-- the change of page 0 stands before that of page 1
+pub flush-rows-before : afterSession none (twoPages ++ (Call.flush 1 ∷ [])) ≡ openBook (Row.begin 1 ∷ Row.change 1 6 (pos 1) ∷ Row.change 1 7 (pos 1) ∷ []) [] none
+unfolding computes
+flush-rows-before = refl
+
+-- 01: "then writes the page, also if unchanged": a row and the page, then the page alone
 pub flush-again : afterSession (left 9) (twoPages ++ (Call.flush 0 ∷ Call.flush 0 ∷ [])) ≡
     openBook (Row.begin 1 ∷ Row.change 1 6 (pos 1) ∷ []) (Row.change 1 7 (pos 1) ∷ []) (left 5)
 unfolding computes
 flush-again = refl
 
 pub flush-untouched : afterSession (left 9) (twoPages ++ (Call.flush 2 ∷ [])) ≡
-    openBook [] (Row.begin 1 ∷ Row.change 1 6 (pos 1) ∷ Row.change 1 7 (pos 1) ∷ []) (left 8)
+    openBook (Row.begin 1 ∷ []) (Row.change 1 6 (pos 1) ∷ Row.change 1 7 (pos 1) ∷ []) (left 7)
 unfolding computes
 flush-untouched = refl
 

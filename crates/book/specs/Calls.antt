@@ -22,9 +22,9 @@ pub data Ending : Type 0 where
   forces : Ending
   flushes : (page : ℕ) → Ending
 
--- 01: commit forces, abort doesn't
+-- 01: commit forces, abort doesn't; 02, L4: "Begin shall force the log before it returns."
 abbrev pub ending : Call → Ending
-ending Call.begin = waits
+ending Call.begin = forces
 ending (Call.change v c a) = waits
 ending (Call.handOver g r c) = waits
 ending (Call.commit v) = forces

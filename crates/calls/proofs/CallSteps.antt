@@ -40,10 +40,10 @@ module _ (x : Core) where
   abbrev next : ℕ
   next = suc (rowCount (x .ram .journal))
 
-  pub begins : (m : Ram) (t : Tables) → let v = suc (x .tables .begun) in m ≡ written (x .ram) (Row.begin v) → t ≡ withBegun (x .tables) v
-      → record { ram = m; charts = x .charts; tables = t; scopes = x .scopes } ≡ acted x Call.begin
+  pub begins : (m : Ram) (t : Tables) (j : Journal) → let v = suc (x .tables .begun) in m ≡ written (x .ram) (Row.begin v) → t ≡ withBegun (x .tables) v
+      → j ≡ forced (m .journal) → record { ram = record { journal = j; copy = m .copy }; charts = x .charts; tables = t; scopes = x .scopes } ≡ acted x Call.begin
   unfolding acted
-  begins m t p q = rw (p, q)
+  begins m t j p q e = rw (e, p, q)
 
   pub changes : (v c : ℕ) (a : ℤ) (m : Ram) (i : Index) → m ≡ written (x .ram) (Row.change v c a) → i ≡ afterChange (indexIn x) next v c
       → assembled m (x .charts) i ≡ acted x (Call.change v c a)

@@ -36,6 +36,7 @@ pub struct Acted {
     pub counts: Counts,
 }
 
+// A begin is forced: a number that was given is in the log.
 pub(crate) fn begin(
     c: Control,
     t: Counts,
@@ -51,7 +52,8 @@ pub(crate) fn begin(
 {
     let v = Visit(t.begun + 1);
     let counts = with_begun(t, visits, v);
-    let control = write(c, log, tail, copy, Row::Begin(v));
+    let with_begin = write(c, log, tail, copy, Row::Begin(v));
+    let control = force(with_begin, log, tail);
     Acted {
         control: control,
         counts: counts,

@@ -1,5 +1,5 @@
 -- The journal's counters after an accepted call: at most 64 rows wait, and there are at most 4,096. Assumes nothing.
-use Prim.Native.Nat.{ℕ, _≤_}
+use Prim.Native.Nat.{ℕ, suc, _≤_}
 use native.Mathlib.Omega.{arith}
 use mathlib.Core.Path.{_≡_, refl}
 use mathlib.Core.Bool.{Bool, true, false, cond}
@@ -46,7 +46,7 @@ up-to m w = go (leb m w) refl
 
 pub counters-acted : (x : Core) (k : Call) → Counters (x .ram .journal .control) → Counters (acted x k .ram .journal .control)
 unfolding acted
-counters-acted x Call.begin n = counters-written (x .ram) _ n
+counters-acted x Call.begin n = counters-forced _ (counters-written (x .ram) (Row.begin (suc (x .tables .begun))) n)
 counters-acted x (Call.change v c a) n = counters-written (x .ram) _ n
 counters-acted x (Call.handOver g r c) n = counters-written (x .ram) _ n
 counters-acted x (Call.commit v) n = counters-forced _ (counters-written (x .ram) (Row.commit v) n)

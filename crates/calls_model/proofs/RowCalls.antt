@@ -27,7 +27,7 @@ use Rattle.wal.specs.Writing.{written}
 use Rattle.wal.proofs.Steady.{steady-sound, steady-add}
 use Rattle.wal.proofs.RowsLookedUp.{count-rows}
 use Rattle.wal.proofs.RowWritten.{Stands, written-stands, forced-stands}
-use Rattle.calls_model.specs.Acts.{Core, acted}
+use Rattle.calls_model.specs.Acts.{Core, forcedRam, acted}
 use Rattle.calls_model.proofs.Cores.{ramOf, coreFor, ram-stands, Reaches, reaches}
 
 -- the rows of the book after an accepted call that ends open
@@ -58,9 +58,18 @@ module _ (cells : ℕ → ℤ) (b : Book) (charts : List ℕ) (s : Sound b) (o :
       reaches cells (add b r) charts x (subst (Stands cells (add b r)) (sym ram) (row-stands r al)) same
       (λ q. tables ∙ index-after r al none ∙ ap indexOf (sym (ap ledger (extends-add b r (s .shut) .rows q) ∙ ledger-append (rowsOf b) (r ∷ []))))
 
+  -- 01: a commit forces after its row; 02, L4: so does a begin
+  forced-row-stands : (r : Row) → allowed (ledgerOf b) r ≡ true → Stands cells (force (add b r)) (forcedRam (written (ramOf cells b) r))
+  forced-row-stands r al = forced-stands cells (add b r) (steady-add b (steady-sound b s) r (λ q. al)) (written (ramOf cells b) r) (row-stands r al)
+
   pub acted-begin : refusal b Call.begin ≡ 0 → Reaches cells (through b Call.begin) charts charts (acted (coreFor cells b charts) Call.begin)
   unfolding acted through adds stepBy tablesOf
-  acted-begin e = row-reaches (Row.begin (suc (ledgerOf b .begun))) _ (row-allowed Call.begin _ tt e refl) refl refl refl refl
+  acted-begin e =
+      let r : Row = Row.begin (suc (ledgerOf b .begun)) in
+      let al = row-allowed Call.begin r tt e refl in
+      reaches cells (force (add b r)) charts (acted (coreFor cells b charts) Call.begin)
+      (forced-row-stands r al) refl
+      (λ q. index-after r al refl ∙ ap indexOf (sym (through-rows b Call.begin s q)))
 
   pub acted-change : (v c : ℕ) (a : ℤ) → Typed (Call.change v c a) → refusal b (Call.change v c a) ≡ 0
       → Reaches cells (through b (Call.change v c a)) charts charts (acted (coreFor cells b charts) (Call.change v c a))
@@ -86,5 +95,5 @@ module _ (cells : ℕ → ℤ) (b : Book) (charts : List ℕ) (s : Sound b) (o :
       let r : Row = Row.commit v in
       let al = row-allowed (Call.commit v) r tt e refl in
       reaches cells (force (add b r)) charts (acted (coreFor cells b charts) (Call.commit v))
-      (forced-stands cells (add b r) (steady-add b (steady-sound b s) r (λ q. al)) (written (ramOf cells b) r) (row-stands r al)) refl
+      (forced-row-stands r al) refl
       (λ q. index-after r al refl ∙ ap indexOf (sym (through-rows b (Call.commit v) s q)))

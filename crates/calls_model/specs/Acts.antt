@@ -84,7 +84,7 @@ cellsHanded x row g r cs = record { ram = written (x .ram) row; charts = x .char
 unfoldable pub acted : Core → Call → Core
 acted x Call.begin =
     let v : ℕ = suc (x .tables .begun) in
-    record { ram = written (x .ram) (Row.begin v); charts = x .charts; tables = withBegun (x .tables) v; scopes = x .scopes }
+    record { ram = forcedRam (written (x .ram) (Row.begin v)); charts = x .charts; tables = withBegun (x .tables) v; scopes = x .scopes }
 acted x (Call.change v c a) = changed x v c a
 acted x (Call.handOver g r c) = cellsHanded x (Row.handOver g r c) g r (only c)
 acted x (Call.commit v) = visitEnded (withRam x (forcedRam (written (x .ram) (Row.commit v)))) v

@@ -12,16 +12,17 @@ use Rattle.book.specs.SessionWrites.{writes, summed, NoStart, flushesDone, Sess
 use Rattle.book.specs.Lists.{StartsWith, any, foldl, keep}
 use Rattle.book.specs.Limits.{cellLimit}
 use Rattle.book.specs.Pages.{cellOf, pageBytes, pageAfter}
+use Rattle.book.specs.Rows.{Row}
 use Rattle.book.specs.Ledger.{Change, ledger}
 use Rattle.book.specs.Cells.{isKept, keptSum}
 use Rattle.book.specs.Calls.{Call}
 use Rattle.book.specs.Power.{Book, PowerHolds, rowsOf, formatted}
-use Rattle.book.specs.Book.{Answer, answer, closing, call, opening}
+use Rattle.book.specs.Book.{Answer, Outcome, answer, closing, call, opening}
 use Rattle.book.specs.Events.{happens, bookAfter, opens}
 use Rattle.book.specs.Logs.{Logged, undoes, Sound}
 use Rattle.book.proofs.Lists.{foldl-append}
 use Rattle.book.proofs.Fate.{once}
-use Rattle.book.proofs.Sound.{stored-allowed, sound-formatted}
+use Rattle.book.proofs.Sound.{TypedEvents, stored-allowed, sound-formatted}
 use Rattle.book.proofs.Claims.{grows-events}
 use Rattle.book.proofs.Openings.{holds-ready}
 use Rattle.book.proofs.Pages.{Bounded}
@@ -29,11 +30,12 @@ use Rattle.state.specs.World.{World, rightLengths}
 use Rattle.state.specs.Contracts.{cellsOf, withPage}
 use Rattle.state.proofs.FormattedStores.{Formatted, new-charts, newCharts, formatted-store}
 use Rattle.sessions.specs.Host.{Opening, Called, Step, opened, called, steps, eventOf, worldAfter, worldAfterAll, callsFollow, writesOf, Host}
-use Rattle.sessions.specs.Demand3.{bookOf, logOf, Lasts, Wrote, Holds, Demand3, isFlushDone}
+use Rattle.sessions.specs.Demand3.{bookOf, logOf, Lasts, Begun, Rises, Wrote, Holds, Demand3, isFlushDone}
 use Rattle.sessions.proofs.Held.{Held, held-world, ByBook}
 use Rattle.sessions.proofs.Along.{typed, book-append, At, first, reach, answered, step-counts, flushes-counted, at-first}
 use Rattle.sessions.proofs.StoredPages.{no-page-stored, page-stored}
 use Rattle.sessions.proofs.Commits.{commit-stays}
+use Rattle.sessions.proofs.Begins.{begin-stays, begin-rises}
 use Rattle.sessions.proofs.ReadyOpenings.{ready-lengths, copy-sum, read-sum, undone-or-kept, wrote}
 
 module _ (cells : ℕ → ℤ) (small : Bounded 1000000 cells) (own : World) (ss : List Step) (start : At cells formatted own true ss) where
@@ -113,22 +115,63 @@ module _ (cells : ℕ → ℤ) (small : Bounded 1000000 cells) (own : World) (ss
       first cells small (bookOf cells zs) (worldAfterAll own zs) _ (called r) ys a .answers ∙
       ap₂ (λ (t : Bool) (x : Call). call cells (bookOf cells zs) t x .answer) len k ∙ read-sums xs (called r ∷ ys) o e zero′ c h
 
-  -- ── A commit ────────────────────────────────────────────────────────────────────────────────────────────────────────
+  -- ── A call that is done, and what comes later ───────────────────────────────────────────────────────────────────────
+
+  module _ (xs ys zs : List Step) (c : Called) (k : Call) (e : ss ≡ xs ++ (called c ∷ (ys ++ zs))) (made : c .call ≡ k) where
+    -- the call by the book
+    abbrev called-by : Outcome
+    called-by = call cells (bookOf cells xs) (rightLengths (c .given)) k
+
+    call-sound : Sound (bookOf cells xs)
+    call-sound = there xs (called c ∷ (ys ++ zs)) e .held .sound
+
+    call-answers : c .result .answer ≡ called-by .answer
+    call-answers =
+        first cells small (bookOf cells xs) (worldAfterAll own xs) _ (called c) (ys ++ zs) (there xs (called c ∷ (ys ++ zs)) e) .answers ∙
+        ap (λ (x : Call). call cells (bookOf cells xs) (rightLengths (c .given)) x .answer) made
+
+    call-done : c .result .answer .number ≡ 0 → called-by .answer .number ≡ 0
+    call-done zero′ = ap (λ (x : Answer). x .number) (sym call-answers) ∙ zero′
+
+    -- the book after the later steps
+    call-later : bookOf cells (xs ++ (called c ∷ ys)) ≡ bookAfter cells (called-by .book) (map eventOf ys)
+    call-later =
+        book-append cells formatted xs (called c ∷ ys) ∙
+        ap (λ (x : Call). bookAfter cells (call cells (bookOf cells xs) (rightLengths (c .given)) x .book) (map eventOf ys)) made
+
+    later-typed : TypedEvents (map eventOf ys)
+    later-typed = typed _ _ ys zs (there xs (called c ∷ (ys ++ zs)) e .host .1)
+
+    -- what holds of the book's answer and the book's log later holds of the answer and the log
+    of-call : (P : Answer → List Row → Type 0) → P (called-by .answer) (bookAfter cells (called-by .book) (map eventOf ys) .stored)
+        → P (c .result .answer) (logOf cells (xs ++ (called c ∷ ys)))
+    of-call P p = subst (λ (x : Book). P (c .result .answer) (x .stored)) (sym call-later)
+        (subst (λ (x : Answer). P x (bookAfter cells (called-by .book) (map eventOf ys) .stored)) (sym call-answers) p)
 
   lasts : (xs ys zs : List Step) (c : Called) (v : ℕ) → ss ≡ xs ++ (called c ∷ (ys ++ zs)) → c .call ≡ Call.commit v → c .result .answer .number ≡ 0
       → Lasts (bookOf cells xs) v (c .result .answer) (logOf cells (xs ++ (called c ∷ ys)))
-  lasts xs ys zs c v e k zero′ =
-      let b = bookOf cells xs in
-      let len = rightLengths (c .given) in
-      let a = there xs (called c ∷ (ys ++ zs)) e in
-      let answers : c .result .answer ≡ call cells b len (Call.commit v) .answer = first cells small b (worldAfterAll own xs) _ (called c) (ys ++ zs) a .answers ∙
-      ap (λ (x : Call). call cells b len x .answer) k in
-      let is : bookOf cells (xs ++ (called c ∷ ys)) ≡ bookAfter cells (call cells b len (Call.commit v) .book) (map eventOf ys) =
-      book-append cells formatted xs (called c ∷ ys) ∙ ap (λ (x : Call). bookAfter cells (call cells b len x .book) (map eventOf ys)) k in
-      let done : call cells b len (Call.commit v) .answer .number ≡ 0 = ap (λ (x : Answer). x .number) (sym answers) ∙ zero′ in
-      subst (λ (x : Book). Lasts (bookOf cells xs) v (c .result .answer) (x .stored)) (sym is)
-      (subst (λ (x : Answer). Lasts (bookOf cells xs) v x (bookAfter cells (call cells b len (Call.commit v) .book) (map eventOf ys) .stored)) (sym answers)
-      (commit-stays cells b len v (a .held .sound) done (map eventOf ys) (typed _ _ ys zs (a .host .1))))
+  lasts xs ys zs c v e k zero′ = of-call xs ys zs c (Call.commit v) e k (Lasts (bookOf cells xs) v)
+      (commit-stays cells (bookOf cells xs) (rightLengths (c .given)) v (call-sound xs ys zs c (Call.commit v) e k) (call-done xs ys zs c (Call.commit v) e k zero′)
+      (map eventOf ys) (later-typed xs ys zs c (Call.commit v) e k))
+
+  begins : (xs ys zs : List Step) (c : Called) → ss ≡ xs ++ (called c ∷ (ys ++ zs)) → c .call ≡ Call.begin → c .result .answer .number ≡ 0
+      → Begun (bookOf cells xs) (c .result .answer) (logOf cells (xs ++ (called c ∷ ys)))
+  begins xs ys zs c e k zero′ = of-call xs ys zs c Call.begin e k (Begun (bookOf cells xs))
+      (begin-stays cells (bookOf cells xs) (rightLengths (c .given)) (call-sound xs ys zs c Call.begin e k) (call-done xs ys zs c Call.begin e k zero′)
+      (map eventOf ys) (later-typed xs ys zs c Call.begin e k))
+
+  rises : (xs ys zs : List Step) (c d : Called) → ss ≡ xs ++ (called c ∷ (ys ++ (called d ∷ zs))) → c .call ≡ Call.begin → d .call ≡ Call.begin
+      → c .result .answer .number ≡ 0 → d .result .answer .number ≡ 0 → Rises (c .result .answer) (d .result .answer)
+  rises xs ys zs c d e k k′ zero′ zero″ =
+      let vs = xs ++ (called c ∷ ys) in
+      let e′ : ss ≡ vs ++ (called d ∷ ([] ++ zs)) = e ∙ sym (append-assoc xs (called c ∷ ys) (called d ∷ zs)) in
+      let len = rightLengths (d .given) in
+      let later = call-later xs ys (called d ∷ zs) c Call.begin e k in
+      let answers = call-answers vs [] zs d Call.begin e′ k′ ∙ ap (λ (x : Book). call cells x len Call.begin .answer) later in
+      subst (λ (x : Answer). Rises (c .result .answer) x) (sym answers)
+      (of-call xs ys (called d ∷ zs) c Call.begin e k (λ a l. Rises a (call cells (bookAfter cells (called-by xs ys (called d ∷ zs) c Call.begin e k .book) (map eventOf ys)) len Call.begin .answer))
+      (begin-rises cells (bookOf cells xs) (rightLengths (c .given)) (call-sound xs ys (called d ∷ zs) c Call.begin e k) (call-done xs ys (called d ∷ zs) c Call.begin e k zero′)
+      (map eventOf ys) (later-typed xs ys (called d ∷ zs) c Call.begin e k) len (ap (λ (x : Answer). x .number) (sym answers) ∙ zero″)))
 
   -- ── The counts of a session ─────────────────────────────────────────────────────────────────────────────────────────
 
@@ -178,6 +221,8 @@ module _ (cells : ℕ → ℤ) (small : Bounded 1000000 cells) (own : World) (ss
     sums = copy-sums;
     reads = reads;
     commits = lasts;
+    begins = begins;
+    numbers-rise = rises;
     undone = its-undone;
     once = λ xs ys e. once (logOf cells xs) (stored-allowed (bookOf cells xs) (there xs ys e .held .sound));
     ready = ends-ready;

@@ -4,6 +4,7 @@ pub mod StoredPages
 pub mod Along
 pub mod ReadyOpenings
 pub mod Commits
+pub mod Begins
 pub mod Demand1
 pub mod Demand2
 pub mod Demand3

@@ -1,5 +1,5 @@
 -- Demand 3 (document 00) as one statement over the whole list of sessions, a field for each of its sentences.
-use Prim.Native.Nat.{ℕ, _-_, _≤_, _<_}
+use Prim.Native.Nat.{ℕ, suc, _-_, _≤_, _<_}
 use mathlib.Core.Bool.{Bool, true, false}
 use mathlib.Core.Path.{_≡_}
 use mathlib.Core.Logic.{_↔_, _≢_}
@@ -45,6 +45,21 @@ pub record Lasts (before : Book) (visit : ℕ) (answer : Answer) (later : List R
   pub row : RowIs number (Row.commit visit) later
   pub sum : (x : Change) → Logged (rowsOf before) x → x .holder ≡ visit → InSum later x
 
+-- 02, L4: "a begin answered done then has its row in every later log until a format": after the rows that there were, with the visit that it answers. `before`
+-- and `later` are as above.
+pub record Begun (before : Book) (answer : Answer) (later : List Row) : Type 0 where
+  pub visit : ℕ
+  pub value : answer .value ≡ pos visit
+  pub row : RowIs (suc (length (rowsOf before))) (Row.begin visit) later
+
+-- the answers of two begins, the later of which has the higher visit number
+pub record Rises (earlier later : Answer) : Type 0 where
+  pub visit : ℕ
+  pub next : ℕ
+  pub value : earlier .value ≡ pos visit
+  pub next-value : later .value ≡ pos next
+  pub higher : visit < next
+
 -- the rows that a ready opening wrote: as many as it answers, an undo row for each change that was open
 pub record Wrote (old new : List Row) (answer : Answer) : Type 0 where
   pub rows : answer .value ≡ pos (length new - length old)
@@ -71,6 +86,12 @@ pub record Holds (cells : ℕ → ℤ) (own : World) (ss : List Step) : Type 0 w
   -- "Each commit answered done has its row in the log from then on, and every change its visit then held is in every later sum."
   pub commits : (xs ys zs : List Step) (c : Called) (v : ℕ) → ss ≡ xs ++ (called c ∷ (ys ++ zs)) → c .call ≡ Call.commit v → c .result .answer .number ≡ 0 →
       Lasts (bookOf cells xs) v (c .result .answer) (logOf cells (xs ++ (called c ∷ ys)))
+  -- 02, L4: "a begin answered done then has its row in every later log until a format", whatever openings and cuts are between
+  pub begins : (xs ys zs : List Step) (c : Called) → ss ≡ xs ++ (called c ∷ (ys ++ zs)) → c .call ≡ Call.begin → c .result .answer .number ≡ 0 →
+      Begun (bookOf cells xs) (c .result .answer) (logOf cells (xs ++ (called c ∷ ys)))
+  -- "so no number is given to two visits between formats": of two begins answered done the later one has the higher number
+  pub numbers-rise : (xs ys zs : List Step) (c d : Called) → ss ≡ xs ++ (called c ∷ (ys ++ (called d ∷ zs))) → c .call ≡ Call.begin → d .call ≡ Call.begin →
+      c .result .answer .number ≡ 0 → d .result .answer .number ≡ 0 → Rises (c .result .answer) (d .result .answer)
   -- "After a ready opening a logged change has an undo row exactly when it isn't in the sum."
   pub undone : (xs ys : List Step) (o : Opening) → ss ≡ xs ++ (opened o ∷ ys) → o .result .answer .number ≡ 0 →
       (x : Change) → Logged (logOf cells (xs ++ (opened o ∷ []))) x →

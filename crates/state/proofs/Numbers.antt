@@ -54,10 +54,10 @@ computed ks = gives none (map (calls true) ks) true
 wrong-length : (k : Call) → Occurs (codeOf k) 1
 wrong-length k = gives none [] false k 1 tt (unfold call in refl)
 
--- the power failed in a force
+-- the power failed in a begin
 closed : (k : Call) → Occurs (codeOf k) 5
 unfolding after reserve scopesInUse force add takeBack refusal adds through value accepted call reopened reopen opening
-closed k = gives (left 0) (calls true Call.begin ∷ calls true Call.force ∷ []) true k 5 (omega arith) refl
+closed k = gives (left 0) (calls true Call.begin ∷ []) true k 5 (omega arith) refl
 
 -- ── 255 visits ────────────────────────────────────────────────────────────────────────────────────────────────────────
 
@@ -77,7 +77,7 @@ unfolding refusal adds after reserve
 takes-begin i h = record {
   row = Row.begin (suc i);
   typed = tt;
-  end = refl;
+  end = tt;
   ok = λ s w e. rw (e, lt-leb 255 i (omega arith), le-leb 2 (4096 - (i + i)) (omega arith));
   rows = λ s w e. rw e;
   comes = refl;
@@ -89,7 +89,7 @@ takes-abort i h =
     let same = eq-eqb (suc i) (suc i) refl in record {
       row = Row.abort (suc i);
       typed = tt;
-      end = refl;
+      end = tt;
       ok = λ s w e. rw (e, same);
       rows = λ s w e. rw (e, same);
       comes = rw same (ap (λ (n : ℕ). begun n (suc i) []) (omega arith));
@@ -130,7 +130,7 @@ unfolding refusal adds after reserve
 takes-there i h = record {
   row = Row.handOver 1 2 0;
   typed = tt;
-  end = refl;
+  end = tt;
   ok = λ s w e. rw (e, le-leb 4 (4096 - (5 + (i + i))) (omega arith));
   rows = λ s w e. refl;
   comes = ap (λ (n : ℕ). handed n 2) (omega arith);
@@ -141,7 +141,7 @@ unfolding refusal adds after reserve
 takes-back i h = record {
   row = Row.handOver 2 1 0;
   typed = tt;
-  end = refl;
+  end = tt;
   ok = λ s w e. rw (e, le-leb 4 (4096 - (6 + (i + i))) (omega arith));
   rows = λ s w e. refl;
   comes = ap (λ (n : ℕ). handed n 1) (omega arith);
@@ -154,8 +154,8 @@ two-visits : At (withFirst 0) (afterCalls twoVisits)
 unfolding after reserve scopesInUse force add takeBack refusal adds through value accepted call reopened reopen opening
 two-visits = record {
   sound = sound-events zeros formatted (opens true none ∷ map (calls true) twoVisits) sound-formatted (omega arith);
-  stored = [];
-  waiting = Row.begin 1 ∷ Row.begin 2 ∷ Row.change 1 0 (pos 1) ∷ Row.handOver 1 2 0 ∷ Row.handOver 2 1 0 ∷ [];
+  stored = Row.begin 1 ∷ Row.begin 2 ∷ [];
+  waiting = Row.change 1 0 (pos 1) ∷ Row.handOver 1 2 0 ∷ Row.handOver 2 1 0 ∷ [];
   is = refl;
   comes = refl;
 }

@@ -4,16 +4,16 @@ use native.Mathlib.Omega.{arith}
 use native.Mathlib.Nat.{zero-add, add-suc, suc-add}
 use mathlib.Core.Path.{_≡_, refl, ap, sym, _∙_, subst}
 use mathlib.Core.Bool.{Bool, true, false}
-use mathlib.Core.List.{List, [], _∷_, _++_, map, append-assoc}
+use mathlib.Core.List.{List, [], _∷_, _++_, map, append-assoc, append-nil}
 use lib.ListN.{length}
 use lib.Dec.{leb}
 use Rattle.book.specs.Lists.{tabulate, join}
 use Rattle.book.specs.Limits.{tailLimit}
 use Rattle.book.specs.Rows.{Row}
 use Rattle.book.specs.Ledger.{Ledger, after, ledger}
-use Rattle.book.specs.Calls.{Call, Typed, waits, ending}
+use Rattle.book.specs.Calls.{Call, Typed, Ending, waits, forces, flushes, ending}
 use Rattle.book.specs.Power.{Book, none, add}
-use Rattle.book.specs.Book.{refusal, adds, through, value, accepted, call}
+use Rattle.book.specs.Book.{refusal, adds, finish, through, value, accepted, call}
 use Rattle.book.specs.Events.{calls, bookAfter}
 use Rattle.book.specs.Logs.{Sound}
 use Rattle.book.specs.Cells.{zeros}
@@ -36,31 +36,63 @@ pub record At (l : Ledger) (b : Book) : Type 0 where
   pub is : b ≡ bookOf stored waiting none true
   pub comes : ledger (stored ++ waiting) ≡ l
 
+-- the same, sound or not
+record Comes (l : Ledger) (b : Book) : Type 0 where
+  stored : List Row
+  waiting : List Row
+  is : b ≡ unfused stored waiting
+  comes : ledger (stored ++ waiting) ≡ l
+
+-- a call that adds a row stores no page
+abbrev pub NoPage : Ending → Type 0
+NoPage waits = Unit {0}
+NoPage forces = Unit {0}
+NoPage (flushes p) = ⊥
+
 module _ (s w : List Row) (l : Ledger) (e : ledger (s ++ w) ≡ l) where
   -- a row more
-  added : (r : Row) → Sound (add (unfused s w) r) → At (after l r) (add (unfused s w) r)
+  added : (r : Row) → Comes (after l r) (add (unfused s w) r)
   unfolding add
-  added r k = go (leb tailLimit (length w)) refl
+  added r = go (leb tailLimit (length w)) refl
     where
       more : ledger (s ++ w ++ (r ∷ [])) ≡ after l r
       more = ledger-append (s ++ w) (r ∷ []) ∙ ap (λ (x : Ledger). after x r) e
 
-      go : (t : Bool) → leb tailLimit (length w) ≡ t → At (after l r) (add (unfused s w) r)
-      go true q = record { sound = k; stored = s ++ w; waiting = r ∷ []; is = rw (q, force-lands s w none tt); comes = more }
-      go false q = record { sound = k; stored = s; waiting = w ++ (r ∷ []); is = rw q; comes = ap ledger (sym (append-assoc s w (r ∷ []))) ∙ more }
+      go : (t : Bool) → leb tailLimit (length w) ≡ t → Comes (after l r) (add (unfused s w) r)
+      go true q = record { stored = s ++ w; waiting = r ∷ []; is = rw (q, force-lands s w none tt); comes = more }
+      go false q = record { stored = s; waiting = w ++ (r ∷ []); is = rw q; comes = ap ledger (sym (append-assoc s w (r ∷ []))) ∙ more }
 
-  taken : (k : Call) (r : Row) → Typed k → Sound (unfused s w) → ending k ≡ waits → refusal (unfused s w) k ≡ 0 → adds (unfused s w) k ≡ r ∷ []
+  -- and a force or none
+  finished : (end : Ending) → NoPage end → Comes l (finish end (unfused s w))
+  finished waits p = record { stored = s; waiting = w; is = refl; comes = e }
+  finished forces p = record { stored = s ++ w; waiting = []; is = force-lands s w none tt; comes = ap ledger (append-nil (s ++ w)) ∙ e }
+  finished (flushes q) p = absurd p
+
+module _ (s w : List Row) (l : Ledger) (e : ledger (s ++ w) ≡ l) where
+  taken : (k : Call) (r : Row) → Typed k → Sound (unfused s w) → NoPage (ending k) → refusal (unfused s w) k ≡ 0 → adds (unfused s w) k ≡ r ∷ []
       → At (after l r) (call zeros (unfused s w) true k .book)
-  taken k r t so end ok rows = subst (At (after l r)) (sym is) (added r (subst Sound is (sound-call zeros (unfused s w) true k so t)))
+  taken k r t so end ok rows = record {
+    sound = sound-call zeros (unfused s w) true k so t;
+    stored = f .stored;
+    waiting = f .waiting;
+    is = is ∙ ap (finish (ending k)) (a .is) ∙ f .is;
+    comes = f .comes;
+  }
     where
-      is : call zeros (unfused s w) true k .book ≡ add (unfused s w) r
-      is = unfold call accepted through in (rw ok (ended-book (value zeros (unfused s w) k) (through (unfused s w) k) ∙ rw (end, rows)))
+      is : call zeros (unfused s w) true k .book ≡ finish (ending k) (add (unfused s w) r)
+      is = unfold call accepted through in (rw ok (ended-book (value zeros (unfused s w) k) (through (unfused s w) k) ∙ rw rows))
 
--- a book whose rows come to `l` takes the call, which adds one row and does no more, and they come to `m`
+      a : Comes (after l r) (add (unfused s w) r)
+      a = added s w l e r
+
+      f : Comes (after l r) (finish (ending k) (unfused (a .stored) (a .waiting)))
+      f = finished (a .stored) (a .waiting) (after l r) (a .comes) (ending k) end
+
+-- a book whose rows come to `l` takes the call, which adds one row and stores no page, and they come to `m`
 pub record Takes (l : Ledger) (k : Call) (m : Ledger) : Type 0 where
   pub row : Row
   pub typed : Typed k
-  pub end : ending k ≡ waits
+  pub end : NoPage (ending k)
   pub ok : (s w : List Row) → ledger (s ++ w) ≡ l → refusal (bookOf s w none true) k ≡ 0
   pub rows : (s w : List Row) → ledger (s ++ w) ≡ l → adds (bookOf s w none true) k ≡ row ∷ []
   pub comes : after l row ≡ m
