@@ -3,6 +3,7 @@
 
 use super::counts::{changes, formatted};
 use super::document::{row, Case};
+use crate::arena::{Arena, Outcome};
 use crate::paper::BEGIN;
 use crate::steps::*;
 use crate::store::Buffer;
@@ -75,10 +76,7 @@ pub const BEGINS: [Case; 8] = [
     Case {
         name: "begin: refused it stores nothing, whatever waits",
         play: |a| {
-            formatted(a, None)?;
-            for visit in 1..=16 {
-                a.expect_line(begin(), &format!("0 {visit} 1 0"))?;
-            }
+            begun(a, None, 16)?;
             a.expect_line(change(1, 0, 5), "0 17 0 0")?;
             a.expect_line(begin(), "7 0 0 0")?;
             a.step(Step::Lend(Buffer::Scopes, 65))?;
@@ -108,10 +106,7 @@ pub const BEGINS: [Case; 8] = [
             changes(a, 510..=572)?;
             a.expect_line(begin(), "6 0 0 0")?;
             a.expect_line(force(), "5 0 0 0")?;
-            formatted(a, Some(16))?;
-            for visit in 1..=16 {
-                a.expect_line(begin(), &format!("0 {visit} 1 0"))?;
-            }
+            begun(a, Some(16), 16)?;
             changes(a, 17..=80)?;
             a.expect_line(begin(), "7 0 0 0")?;
             a.expect_line(force(), "5 0 0 0")?;
@@ -130,10 +125,7 @@ pub const BEGINS: [Case; 8] = [
     Case {
         name: "begin: the seventh patient's number after a pulled plug",
         play: |a| {
-            formatted(a, None)?;
-            for visit in 1..=7 {
-                a.expect_line(begin(), &format!("0 {visit} 1 0"))?;
-            }
+            begun(a, None, 7)?;
             a.step(Step::Scramble(7))?;
             a.expect_line(open(None), "0 7 7 0")?;
             a.expect_line(begin(), "0 8 1 0")
@@ -161,3 +153,13 @@ pub const BEGINS: [Case; 8] = [
         },
     },
 ];
+
+/// A store formatted at zero and opened with this fuse, in which so many visits have begun. Nothing waits, so
+/// each of them has stored its own row.
+fn begun(arena: &mut Arena, fuse: Option<u32>, visits: u16) -> Outcome<()> {
+    formatted(arena, fuse)?;
+    for visit in 1..=visits {
+        arena.expect_line(begin(), &format!("0 {visit} 1 0"))?;
+    }
+    Ok(())
+}
