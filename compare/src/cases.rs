@@ -18,6 +18,7 @@ pub mod sessions;
 pub mod short;
 pub mod text;
 pub mod twelve;
+pub mod two_orders;
 pub mod whole_visit_rows;
 pub mod whole_visits;
 
@@ -33,7 +34,7 @@ pub struct Part {
     pub play: fn(&mut Bench, u64) -> Result<(), Failure>,
 }
 
-pub const PARTS: [Part; 16] = [
+pub const PARTS: [Part; 17] = [
     Part {
         name: "document",
         about: "the cases of documents 01 and 02, with their answers",
@@ -100,6 +101,12 @@ pub const PARTS: [Part; 16] = [
         about: "pages redone alone in random orders, against the copy of an opening",
         seeds: [600, 6_000],
         play: pages_alone::play,
+    },
+    Part {
+        name: "two orders",
+        about: "two hand-overs of different cells in either order, and power failing around them",
+        seeds: [200, 2_000],
+        play: two_orders::play,
     },
     Part {
         name: "all visits",

@@ -31,6 +31,14 @@ pub mod Begins
 pub mod Writes
 pub mod SessionWrites
 pub mod Reopened
+-- two hand-overs in another order
+pub mod Pairs
+pub mod SameOpen
+pub mod SameInUse
+pub mod TwinBooks
+pub mod TwinEvents
+pub mod SwapRows
+pub mod Swapped
 -- bytes
 pub mod Numbers
 pub mod Blocks
@@ -55,6 +63,7 @@ pub mod RowRules
 pub mod AtTheLimit
 pub mod TwoViolations
 pub mod HandOvers
+pub mod TwoOrders
 pub mod StoredWrites
 pub mod StoredCounts
 pub mod StoredBytes

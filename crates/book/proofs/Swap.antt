@@ -12,14 +12,14 @@ use Rattle.book.proofs.Lists.{clash, and-r}
 use Rattle.book.proofs.Invariant.{pass-cases}
 
 -- a hand-over passes on no change of another cell
-pass-other : (g r c : ℕ) (y : Change) → eqb (y .cell) c ≡ false → pass g r (only c) y ≡ y
+pub pass-other : (g r c : ℕ) (y : Change) → eqb (y .cell) c ≡ false → pass g r (only c) y ≡ y
 pass-other g r c y e = go (holds g (only c) y) refl
   where
     go : (t : Bool) → holds g (only c) y ≡ t → cond t (given r y) y ≡ y
     go true h = clash _ (and-r (eqb (y .holder) g) _ h) e
     go false h = refl
 
-pass-cell : (g r : ℕ) (cs : ℕ → Bool) (x : Change) → pass g r cs x .cell ≡ x .cell
+pub pass-cell : (g r : ℕ) (cs : ℕ → Bool) (x : Change) → pass g r cs x .cell ≡ x .cell
 pass-cell g r cs x = pass-cases (λ (y : Change). y .cell ≡ x .cell) g r cs x (λ e. refl) refl
 
 pass-swap : (g r g′ r′ c d : ℕ) (x : Change) → c ≢ d → pass g′ r′ (only d) (pass g r (only c) x) ≡ pass g r (only c) (pass g′ r′ (only d) x)

@@ -12,6 +12,7 @@ pub mod HandOverAll
 pub mod Writes
 pub mod Events
 pub mod SessionWrites
+pub mod Swapped
 pub mod Numbers
 pub mod RowBytes
 pub mod LogBytes

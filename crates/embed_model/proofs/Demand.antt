@@ -69,12 +69,16 @@ pub same-steps : (ss : List SessionMade) → map stepOf (stepsMade ss) ≡ steps
 same-steps [] = refl
 same-steps (s ∷ ss) = ap (λ (l : List Step). opened (openingOf (s .opening)) ∷ l) (same-calls (s .calls) (stepsMade ss) (steps (map sessionOfC ss)) (same-steps ss))
 
--- and each has its contract
+-- so the host of the sessions keeps to 01
+pub host-sessions : (own : Arrays) (ss : List SessionMade) → HostOfC own true (stepsMade ss) → Host (worldIn own) true (steps (map sessionOfC ss))
+host-sessions own ss h = subst (Host (worldIn own) true) (same-steps ss) (host own true (stepsMade ss) h)
+
+-- and each step has its contract
 and-then : (cs : List CallMade) (ts : List Step) → Contracts ts → Contracts (map called (map calledOf cs) ++ ts)
 and-then [] ts p = p
 and-then (c ∷ cs) ts p = (c .ensures .does, and-then cs ts p)
 
-contracts : (ss : List SessionMade) → Contracts (steps (map sessionOfC ss))
+pub contracts : (ss : List SessionMade) → Contracts (steps (map sessionOfC ss))
 contracts [] = tt
 contracts (s ∷ ss) = (s .opening .ensures .does, and-then (s .calls) (steps (map sessionOfC ss)) (contracts ss))
 
@@ -82,4 +86,4 @@ pub demand-3-of-c : Demand3OfC
 unfolding Demand3OfC Demand3
 demand-3-of-c format done ss h =
     demand-3 (format .cells) (worldIn (format .given)) (answeredIn (format .number) (format .leaves)) (format .ensures .does) done (map sessionOfC ss)
-    (subst (Host (worldIn (format .leaves)) true) (same-steps ss) (host (format .leaves) true (stepsMade ss) h)) (contracts ss)
+    (host-sessions (format .leaves) ss h) (contracts ss)

@@ -2,6 +2,7 @@ pub mod Arrays
 pub mod Refused
 pub mod Freedom
 pub mod Demand
+pub mod Swapped
 pub mod Below
 pub mod FlatTables
 pub mod TableRanges

@@ -5,5 +5,6 @@ pub mod PageOfC
 pub mod Host
 pub mod Freedom
 pub mod Demand
+pub mod Swapped
 pub mod EveryList
 pub mod Head

@@ -9,5 +9,8 @@ pub mod Demand1
 pub mod Demand2
 pub mod Demand3
 pub mod EveryList
+pub mod Places
+pub mod Swapped
 pub mod Freedom
 pub mod Made
+pub mod SwappedMade

@@ -10,7 +10,7 @@ and-then : (cs : List OtherCall) (ss : List Step) → Contracts ss → Contracts
 and-then [] ss p = p
 and-then (c ∷ cs) ss p = (c .ensures .post, and-then cs ss p)
 
-contracts : (ss : List Made) → Contracts (steps (map sessionOf ss))
+pub contracts : (ss : List Made) → Contracts (steps (map sessionOf ss))
 contracts [] = tt
 contracts (s ∷ ss) = (s .opening .ensures .post, and-then (s .calls) (steps (map sessionOf ss)) (contracts ss))
 

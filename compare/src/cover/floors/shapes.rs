@@ -255,6 +255,14 @@ pub const SHAPES: Table = Table {
             ],
         ),
         (
+            "two hand-overs in either order",
+            &[
+                ("two orders, both rows found by an opening", 87),
+                ("two orders, just one of the rows found by an opening", 33),
+                ("two orders, none of the rows found by an opening", 130),
+            ],
+        ),
+        (
             "logs refused",
             &[
                 ("log refused at a begin row", 1_600),

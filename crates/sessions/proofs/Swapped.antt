@@ -1,0 +1,193 @@
+-- 02, L5 of 01's sessions: by demand 3 answers, counts and cells are the book's, and by the book they are the same in either order.
+use Prim.Native.Nat.{ℕ, _<_}
+use native.Mathlib.Omega.{arith}
+use mathlib.Core.Bool.{Bool, true}
+use mathlib.Core.Path.{_≡_, ap, ap₂, sym, _∙_, subst}
+use mathlib.Core.List.{List, [], _∷_, _++_, map, map-append, append-assoc, head-eq-of-cons-eq}
+use lib.ListN.{length, length-append, length-map}
+use lib.IntN.{ℤ}
+use Rattle.book.specs.Limits.{cellLimit}
+use Rattle.book.specs.Pages.{cellOf}
+use Rattle.book.specs.Cells.{keptSum}
+use Rattle.book.specs.Power.{Book, Fuse, formatted}
+use Rattle.book.specs.Book.{Answer, opening}
+use Rattle.book.specs.Events.{Event, answers, bookAfter}
+use Rattle.book.specs.SessionWrites.{writes}
+use Rattle.book.specs.Swapped.{Single, eventFor, BothAccepted, oneThenOther, EitherOrder}
+use Rattle.book.proofs.Sound.{TypedEvents, sound-formatted, sound-events}
+use Rattle.book.proofs.Swapped.{either-order}
+use Rattle.state.specs.World.{World, rightLengths}
+use Rattle.state.specs.Contracts.{Answered, FormatPost, cellsOf}
+use Rattle.sessions.specs.Host.{Opening, Session, Step, opened, steps, answerOf, writesOf, eventOf, worldAfterAll, Host}
+use Rattle.sessions.specs.Demand3.{Holds, Demand3}
+use Rattle.sessions.specs.Swapped.{Accepted, SameResults, Swapped}
+use Rattle.sessions.proofs.Along.{book-append}
+use Rattle.sessions.proofs.Demand3.{demand-3}
+use Rattle.sessions.proofs.EveryList.{Lawful, every-list}
+use Rattle.sessions.proofs.Places.{parts, Place, inBefore, isFirst, isSecond, inLater, place, answers-then, writes-then, book-then, answers-of-two, answer-at, answers-at, typed-parts, typed-join, steps-typed}
+use Rattle.sessions.proofs.ReadyOpenings.{ready-lengths}
+
+-- ── A ready opening of one list ───────────────────────────────────────────────────────────────────────────────────────
+
+module _ (cells : ℕ → ℤ) (own : World) (ss : List Step) (holds : Holds cells own ss) (xs ys : List Step) (o : Opening) (e : ss ≡ xs ++ (opened o ∷ ys))
+    (zero′ : o .result .answer .number ≡ 0) where
+  abbrev bookThere : Book
+  bookThere = bookAfter cells formatted (map eventOf xs)
+
+  by-book : o .result .answer ≡ opening bookThere (rightLengths (o .given)) (o .fuse) .answer
+  by-book = answer-at cells xs ys (opened o) formatted (rw e at (holds .answers))
+
+  lengths-there : rightLengths (o .given) ≡ true
+  lengths-there = ready-lengths bookThere _ (o .fuse) (ap (λ (a : Answer). a .number) (sym by-book) ∙ zero′)
+
+  ready-there : opening bookThere true (o .fuse) .answer .number ≡ 0
+  ready-there =
+      ap (λ (t : Bool). opening bookThere t (o .fuse) .answer .number) (sym lengths-there) ∙ ap (λ (a : Answer). a .number) (sym by-book) ∙ zero′
+
+  cell-there : (c : ℕ) → c < cellLimit
+      → cellOf (worldAfterAll own (xs ++ (opened o ∷ [])) .copy) c ≡ keptSum cells (opening bookThere true (o .fuse) .book .stored) c
+  cell-there c h =
+      holds .sums xs ys o e zero′ c h ∙
+      ap (λ (b : Book). keptSum cells (b .stored) c) (book-append cells formatted xs (opened o ∷ []) ∙
+      ap (λ (t : Bool). opening bookThere t (o .fuse) .book) lengths-there)
+
+-- ── Two lists ─────────────────────────────────────────────────────────────────────────────────────────────────────────
+
+module _ (cells : ℕ → ℤ) (own : World) (before : List Event) (h k : Single) (later : List Event) (ss ss′ : List Step) (holds : Holds cells own ss)
+    (holds′ : Holds cells own ss′) (t : TypedEvents (map eventOf ss)) (a : Accepted before h k later ss)
+    (other : map eventOf ss′ ≡ before ++ oneThenOther k h later) where
+  -- the book before the two
+  abbrev b : Book
+  b = bookAfter cells formatted before
+
+  typed-before : TypedEvents before × TypedEvents later
+  typed-before = let r = typed-parts before (oneThenOther h k later) (subst TypedEvents (a .events) t) in (r .0, r .1 .1 .1)
+
+  by-the-book : map answerOf ss ≡ answers cells formatted (before ++ oneThenOther h k later)
+  by-the-book = holds .answers ∙ ap (answers cells formatted) (a .events)
+
+  both : BothAccepted cells b h k
+  both =
+      let r = answers-of-two cells before (eventFor h) (eventFor k) later formatted (a .earlier) (a .one) (a .two) (a .rest) (a .place)
+      (sym by-the-book ∙ a .answers) in
+      record {
+        apart = a .apart;
+        first = ap (λ (x : Answer). x .number) (r .0) ∙ a .first;
+        second = ap (λ (x : Answer). x .number) (r .1) ∙ a .second;
+      }
+
+  either : (es : List Event) → TypedEvents es → EitherOrder cells b h k es
+  either es typed-es = either-order cells b h k es (sound-events cells formatted before sound-formatted (typed-before .0)) typed-es both
+
+  same-answers : map answerOf ss′ ≡ map answerOf ss
+  same-answers =
+      holds′ .answers ∙ ap (answers cells formatted) other ∙
+      answers-then cells before (oneThenOther k h later) (oneThenOther h k later) formatted (either later (typed-before .1) .answers) ∙ sym by-the-book
+
+  same-counts : map writesOf ss′ ≡ map writesOf ss
+  same-counts =
+      holds′ .counts ∙ ap (writes cells formatted) other ∙
+      writes-then cells before (oneThenOther k h later) (oneThenOther h k later) formatted (either later (typed-before .1) .counts) ∙
+      sym (holds .counts ∙ ap (writes cells formatted) (a .events))
+
+  swapped-accepted : Accepted before k h later ss′
+  swapped-accepted = record {
+    events = other;
+    apart = λ e. a .apart (sym e);
+    earlier = a .earlier;
+    one = a .one;
+    two = a .two;
+    rest = a .rest;
+    answers = same-answers ∙ a .answers;
+    place = a .place;
+    first = a .first;
+    second = a .second;
+  }
+
+  module _ (xs ys xs′ ys′ : List Step) (o o′ : Opening) (e : ss ≡ xs ++ (opened o ∷ ys)) (e′ : ss′ ≡ xs′ ++ (opened o′ ∷ ys′)) (n : length xs′ ≡ length xs)
+      (zero′ : o .result .answer .number ≡ 0) where
+    -- the other opening is ready too
+    zero″ : o′ .result .answer .number ≡ 0
+    zero″ =
+        ap (λ (x : Answer). x .number) (answers-at xs ys xs′ ys′ (opened o) (opened o′) n (sym (ap (map answerOf) e′) ∙ same-answers ∙ ap (map answerOf) e)) ∙
+        zero′
+
+    -- what comes before the opening of the other list, and the opening
+    there′ : (ws vs : List Event) (x : Event) → length ws ≡ length xs → before ++ oneThenOther k h later ≡ ws ++ (x ∷ vs)
+        → (map eventOf xs′ ≡ ws) × (eventOf (opened o′) ≡ x)
+    there′ ws vs x m q =
+        let l : length (map eventOf xs′) ≡ length ws = length-map xs′ eventOf ∙ n ∙ sym m in
+        let is = sym (map-append eventOf xs′ (opened o′ ∷ ys′)) ∙ sym (ap (map eventOf) e′) ∙ other ∙ q in
+        let r = parts (map eventOf xs′) (eventOf (opened o′) ∷ map eventOf ys′) ws (x ∷ vs) l is in
+        (r .0, head-eq-of-cons-eq (r .1))
+
+    -- the sum after an opening of the book
+    abbrev sumAfter : List Event → Fuse → ℕ → ℤ
+    sumAfter es f c = keptSum cells (opening (bookAfter cells formatted es) true f .book .stored) c
+
+    same-sum : (c : ℕ) → Place before (eventFor h) (eventFor k) later (map eventOf xs) (eventOf (opened o))
+        → sumAfter (map eventOf xs′) (o′ .fuse) c ≡ sumAfter (map eventOf xs) (o .fuse) c
+    same-sum c (inBefore zs q) =
+        let more = oneThenOther k h later in
+        let r = there′ (map eventOf xs) (zs ++ more) (eventOf (opened o)) (length-map xs eventOf)
+        (ap (λ (es : List Event). es ++ more) q ∙ append-assoc (map eventOf xs) (eventOf (opened o) ∷ zs) more) in
+        let f : o′ .fuse ≡ o .fuse = cc (r .1) in
+        ap₂ (λ (es : List Event) (g : Fuse). sumAfter es g c) (r .0) f
+    same-sum c (isFirst q) = let z : _≡_ {A = ℕ} 0 1 = cc q in absurd (omega arith)
+    same-sum c (isSecond q) = let z : _≡_ {A = ℕ} 0 1 = cc q in absurd (omega arith)
+    same-sum c (inLater zs ws q r) =
+        let len : length (before ++ oneThenOther k h zs) ≡ length xs =
+        length-append before (oneThenOther k h zs) ∙ sym (length-append before (oneThenOther h k zs)) ∙ ap length (sym q) ∙ length-map xs eventOf in
+        let split : before ++ oneThenOther k h later ≡ (before ++ oneThenOther k h zs) ++ (eventOf (opened o) ∷ ws) =
+        ap (λ (es : List Event). before ++ oneThenOther k h es) r ∙ sym (append-assoc before (oneThenOther k h zs) (eventOf (opened o) ∷ ws)) in
+        let p = there′ (before ++ oneThenOther k h zs) ws (eventOf (opened o)) len split in
+        let f : o′ .fuse ≡ o .fuse = cc (p .1) in
+        let is : bookAfter cells formatted (map eventOf xs) ≡ bookAfter cells b (oneThenOther h k zs) =
+        ap (bookAfter cells formatted) q ∙ book-then cells before (oneThenOther h k zs) formatted in
+        let ready = ap (λ (x : Book). opening x true (o .fuse) .answer .number) (sym is) ∙ ready-there cells own ss holds xs ys o e zero′ in
+        let typed-zs = typed-parts zs (eventOf (opened o) ∷ ws) (subst TypedEvents r (typed-before .1)) .0 in
+        ap₂ (λ (es : List Event) (g : Fuse). sumAfter es g c) (p .0) f ∙
+        ap (λ (x : Book). keptSum cells (opening x true (o .fuse) .book .stored) c) (book-then cells before (oneThenOther k h zs) formatted) ∙
+        either zs typed-zs .sums (o .fuse) ready c ∙ ap (λ (x : Book). keptSum cells (opening x true (o .fuse) .book .stored) c) (sym is)
+
+  same-cells : (xs ys xs′ ys′ : List Step) (o o′ : Opening) → ss ≡ xs ++ (opened o ∷ ys) → ss′ ≡ xs′ ++ (opened o′ ∷ ys′) → length xs′ ≡ length xs
+      → o .result .answer .number ≡ 0 → (c : ℕ) → c < cellLimit
+      → cellOf (worldAfterAll own (xs′ ++ (opened o′ ∷ [])) .copy) c ≡ cellOf (worldAfterAll own (xs ++ (opened o ∷ [])) .copy) c
+  same-cells xs ys xs′ ys′ o o′ e e′ n zero′ c lt =
+      let where′ = place before (eventFor h) (eventFor k) later (map eventOf xs) (eventOf (opened o)) (map eventOf ys)
+      (sym (a .events) ∙ ap (map eventOf) e ∙ map-append eventOf xs (opened o ∷ ys)) in
+      cell-there cells own ss′ holds′ xs′ ys′ o′ e′ (zero″ xs ys xs′ ys′ o o′ e e′ n zero′) c lt ∙ same-sum xs ys xs′ ys′ o o′ e e′ n zero′ c where′ ∙
+      sym (cell-there cells own ss holds xs ys o e zero′ c lt)
+
+  same-results : SameResults own before h k later ss ss′
+  same-results = record { accepted = swapped-accepted; answers = same-answers; counts = same-counts; cells = same-cells }
+
+-- 02, L5
+pub hand-overs-swapped : Swapped
+unfolding Swapped Demand3
+hand-overs-swapped values given format post done ss ss′ host contracts host′ contracts′ before h k later a other =
+    same-results (cellsOf values) (format .world) before h k later (steps ss) (steps ss′) (demand-3 values given format post done ss host contracts)
+    (demand-3 values given format post done ss′ host′ contracts′) (steps-typed (format .world) (steps ss) host) a other
+
+-- ── The other order can be had ────────────────────────────────────────────────────────────────────────────────────────
+
+no-events : {x : Event} {xs : List Event} {X : Type 0} → Path (List Event) [] (x ∷ xs) → X
+no-events e = let z : _≡_ {A = ℕ} 0 1 = cc e in absurd (omega arith)
+
+-- for every list of sessions with two such hand-overs there is one with the two in the other order, of a host that keeps to 01, that meets the contracts
+pub other-order : (values : List ℤ) (given : World) (format : Answered) → FormatPost values given format → format .answer .number ≡ 0
+    → (ss : List Session) → Host (format .world) true (steps ss) → (before : List Event) (h k : Single) (later : List Event)
+    → map eventOf (steps ss) ≡ before ++ oneThenOther h k later → Lawful (format .world) (before ++ oneThenOther k h later)
+other-order values given format post done ss host before h k later e = go ss before e (subst TypedEvents e (steps-typed (format .world) (steps ss) host))
+  where
+    go : (ss : List Session) (before : List Event) → map eventOf (steps ss) ≡ before ++ oneThenOther h k later → TypedEvents (before ++ oneThenOther h k later)
+        → Lawful (format .world) (before ++ oneThenOther k h later)
+    go [] [] e t = no-events e
+    go [] (x ∷ before) e t = no-events e
+    go (s ∷ ss) [] e t = let z : _≡_ {A = ℕ} 0 1 = cc (head-eq-of-cons-eq e) in absurd (omega arith)
+    go (s ∷ ss) (x ∷ before) e t =
+        let o = s .opening in
+        let rest = typed-parts before (oneThenOther h k later) (t .1) in
+        subst (λ (y : Event). Lawful (format .world) (y ∷ (before ++ oneThenOther k h later))) (head-eq-of-cons-eq e)
+        (every-list values given format post done (rightLengths (o .given)) (o .fuse) (before ++ oneThenOther k h later)
+        (typed-join before (oneThenOther k h later) (rest .0) (tt, (tt, rest .1 .1 .1))))
