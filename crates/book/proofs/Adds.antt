@@ -47,6 +47,34 @@ may-hand-over : (l : Ledger) (g r : ℕ) (cs : ℕ → Bool) → Whole l → isA
     → mayHandOver l g r cs ≡ true
 may-hand-over l g r cs w ag ar ne h = and-i _ _ (and-i _ _ (and-i _ _ (and-i _ _ (and-i _ _ (ap not ne) ag) ar) (ap not (w g ag))) (ap not (w r ar))) h
 
+-- what a single hand-over needs, by the ledger
+pub record Needs (l : Ledger) (g r c : ℕ) : Type 0 where
+  pub giver : isActive l g ≡ true
+  pub receiver : isActive l r ≡ true
+  pub two : eqb g r ≡ false
+  pub cell : isCell c ≡ true
+  pub held : holdsAny l g (only c) ≡ true
+  pub free : room l 1 ≡ true
+
+pub needs : (b : Book) (g r c : ℕ) → refusal b (Call.handOver g r c) ≡ 0 → Needs (ledgerOf b) g r c
+unfolding refusal
+needs b g r c e =
+    let l = ledgerOf b in
+    let p = passes (not (isActive l g)) 8 _ e in
+    let q = passes (not (isActive l r)) 8 _ (p .1) in
+    let s = passes (eqb g r) 11 _ (q .1) in
+    let u = passes (not (isCell c)) 9 _ (s .1) in
+    let x = passes (not (holdsAny l g (only c))) 12 _ (u .1) in
+    let y = passes (not (room l 1)) 7 _ (x .1) in
+    record {
+      giver = not-false _ (p .0);
+      receiver = not-false _ (q .0);
+      two = s .0;
+      cell = not-false _ (u .0);
+      held = not-false _ (x .0);
+      free = not-false _ (y .0);
+    }
+
 pub fine-adds : (b : Book) (k : Call) → Inv (ledgerOf b) → Whole (ledgerOf b) → Typed k → refusal b k ≡ 0 → Fine (ledgerOf b) (adds b k)
 unfolding refusal adds allowed fits lawful withinLimits after
 fine-adds b Call.begin i w t e =
@@ -77,16 +105,10 @@ fine-adds b (Call.change v c a) i w t e =
     alone l (Row.change v c a) (and-i _ _ (and-i _ _ fit (and-i _ _ act (ap not (w v act)))) limits) w
 fine-adds b (Call.handOver g r c) i w t e =
     let l = ledgerOf b in
-    let p = passes (not (isActive l g)) 8 _ e in
-    let q = passes (not (isActive l r)) 8 _ (p .1) in
-    let s = passes (eqb g r) 11 _ (q .1) in
-    let u = passes (not (isCell c)) 9 _ (s .1) in
-    let x = passes (not (holdsAny l g (only c))) 12 _ (u .1) in
-    let y = passes (not (room l 1)) 7 _ (x .1) in
-    let ag = not-false (isActive l g) (p .0) in
-    let ar = not-false (isActive l r) (q .0) in
-    let fit : fits (Row.handOver g r c) ≡ true = and-i _ _ (and-i _ _ (is-visit l g i ag) (is-visit l r i ar)) (not-false _ (u .0)) in
-    alone l (Row.handOver g r c) (and-i _ _ (and-i _ _ fit (may-hand-over l g r (only c) w ag ar (s .0) (not-false _ (x .0)))) (not-false _ (y .0))) w
+    let n = needs b g r c e in
+    let fit : fits (Row.handOver g r c) ≡ true = and-i _ _ (and-i _ _ (is-visit l g i (n .giver)) (is-visit l r i (n .receiver))) (n .cell) in
+    let may = may-hand-over l g r (only c) w (n .giver) (n .receiver) (n .two) (n .held) in
+    alone l (Row.handOver g r c) (and-i _ _ (and-i _ _ fit may) (n .free)) w
 fine-adds b (Call.commit v) i w t e =
     let l = ledgerOf b in
     let act = not-false (isActive l v) (passes (not (isActive l v)) 8 _ e .0) in

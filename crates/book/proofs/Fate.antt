@@ -51,7 +51,7 @@ abort-over l v e i = record { old = i .old v (abort-active l v e); over = goes v
 -- ── A change whose holder has ended ───────────────────────────────────────────────────────────────────────────────────
 
 -- no hand-over passes it on
-pass-over : (l : Ledger) (g r : ℕ) (cs : ℕ → Bool) (x : Change) → isActive l g ≡ true → Over l (x .holder) → pass g r cs x ≡ x
+pub pass-over : (l : Ledger) (g r : ℕ) (cs : ℕ → Bool) (x : Change) → isActive l g ≡ true → Over l (x .holder) → pass g r cs x ≡ x
 pass-over l g r cs x a o = rw (ne-eqb (x .holder) g (λ q. clash _ (rw q a) (o .over)))
 
 -- one row more leaves it as it is

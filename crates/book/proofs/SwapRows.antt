@@ -2,25 +2,24 @@
 -- it was, and after both of them the ledger is the same.
 use Prim.Native.Nat.{ℕ, _+_}
 use native.Mathlib.Omega.{arith}
-use mathlib.Core.Bool.{Bool, true, false, not, and-false}
+use mathlib.Core.Bool.{Bool, true, false, and-false}
 use mathlib.Core.Path.{_≡_, refl, ap, sym, _∙_, subst}
 use mathlib.Core.Logic.{_≢_}
 use mathlib.Core.List.{List, [], _∷_, map}
 use lib.ListN.{length, length-map}
 use lib.Dec.{eqb}
-use borrow.Author.Tests.{eqb-true, ne-eqb, leb-true, le-leb, not-false}
+use borrow.Author.Tests.{eqb-true, ne-eqb, leb-true, le-leb}
 use Rattle.book.specs.Lists.{keep, any}
-use Rattle.book.specs.Rows.{Row, handOver, isCell}
+use Rattle.book.specs.Rows.{Row, handOver}
 use Rattle.book.specs.Ledger.{Change, Ledger, only, holds, pass, after}
-use Rattle.book.specs.Rules.{isActive, isOpenChange, reserve, free, room, holdsAny}
-use Rattle.book.specs.Calls.{Call}
+use Rattle.book.specs.Rules.{isActive, isOpenChange, reserve, free}
 use Rattle.book.specs.Power.{Book, ledgerOf}
 use Rattle.book.specs.Book.{refusal}
-use Rattle.book.specs.Swapped.{Single}
+use Rattle.book.specs.Swapped.{Single, callFor}
 use Rattle.book.proofs.Lists.{keep-same, keep-map}
 use Rattle.book.proofs.Invariant.{pass-cases, pass-row}
 use Rattle.book.proofs.Swap.{pass-other, pass-cell, hand-overs-swap}
-use Rattle.book.proofs.Adds.{passes}
+use Rattle.book.proofs.Adds.{Needs}
 use Rattle.book.proofs.Pairs.{pairs-maps}
 use Rattle.book.proofs.SameOpen.{SameChange, open-alike, SameOpen, same-open-refl, SameRows, end, next}
 
@@ -55,49 +54,22 @@ held-passed g r c v d ne (x ∷ xs) = rw (held-passed g r c v d ne xs, one (eqb 
         other (pass g r (only c) x) (ap (λ (k : ℕ). eqb k d) (pass-cell g r (only c) x) ∙ q) ∙ sym (other x q)
     one false e = ap (holds v (only d)) (pass-other g r c x e)
 
--- what a hand-over needs, by the ledger
-pub record Needs (l : Ledger) (h : Single) : Type 0 where
-  pub giver : isActive l (h .giver) ≡ true
-  pub receiver : isActive l (h .receiver) ≡ true
-  pub two : eqb (h .giver) (h .receiver) ≡ false
-  pub cell : isCell (h .cell) ≡ true
-  pub held : holdsAny l (h .giver) (only (h .cell)) ≡ true
-  pub free : room l 1 ≡ true
-
-abbrev pub callOf : Single → Call
-callOf h = Call.handOver (h .giver) (h .receiver) (h .cell)
-
 abbrev pub rowOf : Single → Row
 rowOf h = handOver (h .giver) (h .receiver) (h .cell)
 
-pub needs : (b : Book) (h : Single) → refusal b (callOf h) ≡ 0 → Needs (ledgerOf b) h
-unfolding refusal
-needs b h e =
-    let l = ledgerOf b in
-    let p = passes (not (isActive l (h .giver))) 8 _ e in
-    let q = passes (not (isActive l (h .receiver))) 8 _ (p .1) in
-    let s = passes (eqb (h .giver) (h .receiver)) 11 _ (q .1) in
-    let u = passes (not (isCell (h .cell))) 9 _ (s .1) in
-    let x = passes (not (holdsAny l (h .giver) (only (h .cell)))) 12 _ (u .1) in
-    let y = passes (not (room l 1)) 7 _ (x .1) in
-    record {
-      giver = not-false _ (p .0);
-      receiver = not-false _ (q .0);
-      two = s .0;
-      cell = not-false _ (u .0);
-      held = not-false _ (x .0);
-      free = not-false _ (y .0);
-    }
+-- what it needs
+abbrev pub NeedsOf : Ledger → Single → Type 0
+NeedsOf l h = Needs l (h .giver) (h .receiver) (h .cell)
 
-pub unrefused : (b : Book) (h : Single) → Needs (ledgerOf b) h → refusal b (callOf h) ≡ 0
+pub unrefused : (b : Book) (h : Single) → NeedsOf (ledgerOf b) h → refusal b (callFor h) ≡ 0
 unfolding refusal
 unrefused b h n = rw (n .giver, n .receiver, n .two, n .cell, n .held, n .free)
 
 -- ── Both, in either order ─────────────────────────────────────────────────────────────────────────────────────────────
 
-module _ (l : Ledger) (h k : Single) (ne : h .cell ≢ k .cell) (n : Needs l h) (m : Needs (after l (rowOf h)) k) where
+module _ (l : Ledger) (h k : Single) (ne : h .cell ≢ k .cell) (n : NeedsOf l h) (m : NeedsOf (after l (rowOf h)) k) where
   -- the second needs no more before the first
-  pub needs-first : Needs l k
+  pub needs-first : NeedsOf l k
   unfolding after
   needs-first = record {
     giver = m .giver;
@@ -112,7 +84,7 @@ module _ (l : Ledger) (h k : Single) (ne : h .cell ≢ k .cell) (n : Needs l h) 
   }
 
   -- nor the first after the second
-  pub needs-second : Needs (after l (rowOf k)) h
+  pub needs-second : NeedsOf (after l (rowOf k)) h
   unfolding after
   needs-second = record {
     giver = n .giver;

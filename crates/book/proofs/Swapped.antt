@@ -16,12 +16,13 @@ use Rattle.book.specs.Events.{Event, answers, bookAfter}
 use Rattle.book.specs.Writes.{Writes, callWrites}
 use Rattle.book.specs.SessionWrites.{writes}
 use Rattle.book.specs.Logs.{Sound}
-use Rattle.book.specs.Swapped.{Single, BothAccepted, oneThenOther, EitherOrder}
+use Rattle.book.specs.Swapped.{Single, callFor, BothAccepted, oneThenOther, EitherOrder}
 use Rattle.book.proofs.Logs.{ledger-append}
 use Rattle.book.proofs.Steps.{extends-through}
+use Rattle.book.proofs.Adds.{needs}
 use Rattle.book.proofs.Sound.{Decided, refuses, accepts, decided, sound-through, TypedEvents, sound-events}
 use Rattle.book.proofs.Openings.{ended-open, ready}
-use Rattle.book.proofs.SwapRows.{Needs, callOf, rowOf, needs, unrefused, needs-first, needs-second, after-both, one-of-two, both-rows}
+use Rattle.book.proofs.SwapRows.{rowOf, NeedsOf, unrefused, needs-first, needs-second, after-both, one-of-two, both-rows}
 use Rattle.book.proofs.SameOpen.{rows-refl}
 use Rattle.book.proofs.SameInUse.{SameInUse, same-in-use-refl}
 use Rattle.book.proofs.TwinBooks.{Twins, twin-length, twin-stored, stored-cells, twin-adds}
@@ -58,30 +59,30 @@ is-done cells b k t =
 
 -- ── Both, in either order ─────────────────────────────────────────────────────────────────────────────────────────────
 
-module _ (cells : ℕ → ℤ) (b : Book) (s : Sound b) (h k : Single) (ne : h .cell ≢ k .cell) (one : Takes b (callOf h))
-    (two : Takes (through b (callOf h)) (callOf k)) where
+module _ (cells : ℕ → ℤ) (b : Book) (s : Sound b) (h k : Single) (ne : h .cell ≢ k .cell) (one : Takes b (callFor h))
+    (two : Takes (through b (callFor h)) (callFor k)) where
   -- the books after one of them, and after both
   abbrev b₁ : Book
-  b₁ = through b (callOf h)
+  b₁ = through b (callFor h)
 
   abbrev b₁′ : Book
-  b₁′ = through b (callOf k)
+  b₁′ = through b (callFor k)
 
   abbrev b₂ : Book
-  b₂ = through b₁ (callOf k)
+  b₂ = through b₁ (callFor k)
 
   abbrev b₂′ : Book
-  b₂′ = through b₁′ (callOf h)
+  b₂′ = through b₁′ (callFor h)
 
-  ledger-one : (j : Single) → through b (callOf j) .isOpen ≡ true → ledgerOf (through b (callOf j)) ≡ after (ledgerOf b) (rowOf j)
+  ledger-one : (j : Single) → through b (callFor j) .isOpen ≡ true → ledgerOf (through b (callFor j)) ≡ after (ledgerOf b) (rowOf j)
   unfolding adds
-  ledger-one j o = ap ledger (extends-through b (callOf j) (s .shut) .rows o) ∙ ledger-append (rowsOf b) (rowOf j ∷ [])
+  ledger-one j o = ap ledger (extends-through b (callFor j) (s .shut) .rows o) ∙ ledger-append (rowsOf b) (rowOf j ∷ [])
 
-  need-one : Needs (ledgerOf b) h
-  need-one = needs b h (one .unrefused)
+  need-one : NeedsOf (ledgerOf b) h
+  need-one = needs b (h .giver) (h .receiver) (h .cell) (one .unrefused)
 
-  need-two : Needs (after (ledgerOf b) (rowOf h)) k
-  need-two = subst (λ (l : Ledger). Needs l k) (ledger-one h (one .power)) (needs b₁ k (two .unrefused))
+  need-two : NeedsOf (after (ledgerOf b) (rowOf h)) k
+  need-two = subst (λ (l : Ledger). NeedsOf l k) (ledger-one h (one .power)) (needs b₁ (k .giver) (k .receiver) (k .cell) (two .unrefused))
 
   itself : Twins b b
   itself = record { fuse = refl; isOpen = refl; stored = rows-refl (b .stored) empty; waiting = rows-refl (b .waiting) (ledger (b .stored)) }
@@ -95,28 +96,28 @@ module _ (cells : ℕ → ℤ) (b : Book) (s : Sound b) (h k : Single) (ne : h .
   twins-both = twin-adds b b (s .shut) (s .shut) itself (both-rows (ledgerOf b) h k ne need-one need-two)
 
   -- the swapped order is accepted
-  first-taken : Takes b (callOf k)
+  first-taken : Takes b (callFor k)
   first-taken = record {
     isOpen = one .isOpen;
     unrefused = unrefused b k (needs-first (ledgerOf b) h k ne need-one need-two);
     power = twins-one .isOpen ∙ one .power;
   }
 
-  second-taken : Takes b₁′ (callOf h)
+  second-taken : Takes b₁′ (callFor h)
   second-taken = record {
     isOpen = first-taken .power;
     unrefused = unrefused b₁′ h
-        (subst (λ (l : Ledger). Needs l h) (sym (ledger-one k (first-taken .power))) (needs-second (ledgerOf b) h k ne need-one need-two));
+        (subst (λ (l : Ledger). NeedsOf l h) (sym (ledger-one k (first-taken .power))) (needs-second (ledgerOf b) h k ne need-one need-two));
     power = twins-both .isOpen ∙ two .power;
   }
 
   -- the books after both
-  ledger-two : (i j : Single) → Takes b (callOf i) → through (through b (callOf i)) (callOf j) .isOpen ≡ true
-      → ledgerOf (through (through b (callOf i)) (callOf j)) ≡ after (after (ledgerOf b) (rowOf i)) (rowOf j)
+  ledger-two : (i j : Single) → Takes b (callFor i) → through (through b (callFor i)) (callFor j) .isOpen ≡ true
+      → ledgerOf (through (through b (callFor i)) (callFor j)) ≡ after (after (ledgerOf b) (rowOf i)) (rowOf j)
   unfolding adds
   ledger-two i j t o =
-      let c = through b (callOf i) in
-      ap ledger (extends-through c (callOf j) (extends-through b (callOf i) (s .shut) .shut) .rows o) ∙ ledger-append (rowsOf c) (rowOf j ∷ []) ∙
+      let c = through b (callFor i) in
+      ap ledger (extends-through c (callFor j) (extends-through b (callFor i) (s .shut) .shut) .rows o) ∙ ledger-append (rowsOf c) (rowOf j ∷ []) ∙
       ap (λ (l : Ledger). after l (rowOf j)) (ledger-one i (t .power))
 
   alongside : Alongside b₂ b₂′
@@ -126,53 +127,53 @@ module _ (cells : ℕ → ℤ) (b : Book) (s : Sound b) (h k : Single) (ne : h .
       same = ledger-two h k one (two .power) ∙ sym (after-both (ledgerOf b) h k ne need-one need-two) ∙ sym (ledger-two k h first-taken (second-taken .power))
 
   sound : Sound b₂
-  sound = sound-through b₁ (callOf k) (sound-through b (callOf h) s (one .isOpen) tt (one .unrefused)) (two .isOpen) tt (two .unrefused)
+  sound = sound-through b₁ (callFor k) (sound-through b (callFor h) s (one .isOpen) tt (one .unrefused)) (two .isOpen) tt (two .unrefused)
 
   sound′ : Sound b₂′
   sound′ =
-      sound-through b₁′ (callOf h) (sound-through b (callOf k) s (first-taken .isOpen) tt (first-taken .unrefused)) (second-taken .isOpen) tt
+      sound-through b₁′ (callFor h) (sound-through b (callFor k) s (first-taken .isOpen) tt (first-taken .unrefused)) (second-taken .isOpen) tt
       (second-taken .unrefused)
 
   same-later : (es : List Event) → TypedEvents es → SameList cells b₂ b₂′ es
   same-later es t = same-list cells es b₂ b₂′ sound sound′ alongside t
 
   -- what the two of them answer and count
-  first-value : value cells b (callOf k) ≡ value cells b (callOf h)
+  first-value : value cells b (callFor k) ≡ value cells b (callFor h)
   unfolding value adds
   first-value = refl
 
-  second-value : value cells b₁′ (callOf h) ≡ value cells b₁ (callOf k)
+  second-value : value cells b₁′ (callFor h) ≡ value cells b₁ (callFor k)
   unfolding value adds
   second-value = rw (twin-length b₁ b₁′ twins-one)
 
-  first-counts : callWrites b (callOf k) (doneBy cells b (callOf k)) ≡ callWrites b (callOf h) (doneBy cells b (callOf h))
+  first-counts : callWrites b (callFor k) (doneBy cells b (callFor k)) ≡ callWrites b (callFor h) (doneBy cells b (callFor h))
   first-counts = rw (twin-stored b₁ b₁′ twins-one)
 
-  second-counts : callWrites b₁′ (callOf h) (doneBy cells b₁′ (callOf h)) ≡ callWrites b₁ (callOf k) (doneBy cells b₁ (callOf k))
+  second-counts : callWrites b₁′ (callFor h) (doneBy cells b₁′ (callFor h)) ≡ callWrites b₁ (callFor k) (doneBy cells b₁ (callFor k))
   second-counts = rw (twin-stored b₁ b₁′ twins-one, twin-stored b₂ b₂′ twins-both)
 
 -- what two hand-overs that are done come to
-module _ (cells : ℕ → ℤ) (b : Book) (h k : Single) (one : Takes b (callOf h)) (two : Takes (through b (callOf h)) (callOf k)) where
+module _ (cells : ℕ → ℤ) (b : Book) (h k : Single) (one : Takes b (callFor h)) (two : Takes (through b (callFor h)) (callFor k)) where
   answers-two : (es : List Event) → answers cells b (oneThenOther h k es)
-      ≡ answer 0 (value cells b (callOf h)) ∷ answer 0 (value cells (through b (callOf h)) (callOf k)) ∷
-      answers cells (through (through b (callOf h)) (callOf k)) es
-  answers-two es = rw (is-done cells b (callOf h) one, is-done cells (through b (callOf h)) (callOf k) two)
+      ≡ answer 0 (value cells b (callFor h)) ∷ answer 0 (value cells (through b (callFor h)) (callFor k)) ∷
+      answers cells (through (through b (callFor h)) (callFor k)) es
+  answers-two es = rw (is-done cells b (callFor h) one, is-done cells (through b (callFor h)) (callFor k) two)
 
   writes-two : (es : List Event) → writes cells b (oneThenOther h k es)
-      ≡ callWrites b (callOf h) (doneBy cells b (callOf h)) ∷ callWrites (through b (callOf h)) (callOf k) (doneBy cells (through b (callOf h)) (callOf k)) ∷
-      writes cells (through (through b (callOf h)) (callOf k)) es
-  writes-two es = rw (is-done cells b (callOf h) one, is-done cells (through b (callOf h)) (callOf k) two)
+      ≡ callWrites b (callFor h) (doneBy cells b (callFor h)) ∷ callWrites (through b (callFor h)) (callFor k) (doneBy cells (through b (callFor h)) (callFor k)) ∷
+      writes cells (through (through b (callFor h)) (callFor k)) es
+  writes-two es = rw (is-done cells b (callFor h) one, is-done cells (through b (callFor h)) (callFor k) two)
 
-  after-two : (es : List Event) → bookAfter cells b (oneThenOther h k es) ≡ bookAfter cells (through (through b (callOf h)) (callOf k)) es
+  after-two : (es : List Event) → bookAfter cells b (oneThenOther h k es) ≡ bookAfter cells (through (through b (callFor h)) (callFor k)) es
   after-two es =
-      ap (λ (o : Outcome). bookAfter cells (call cells (o .book) true (callOf k) .book) es) (is-done cells b (callOf h) one) ∙
-      ap (λ (o : Outcome). bookAfter cells (o .book) es) (is-done cells (through b (callOf h)) (callOf k) two)
+      ap (λ (o : Outcome). bookAfter cells (call cells (o .book) true (callFor k) .book) es) (is-done cells b (callFor h) one) ∙
+      ap (λ (o : Outcome). bookAfter cells (o .book) es) (is-done cells (through b (callFor h)) (callFor k) two)
 
   both-accepted : h .cell ≢ k .cell → BothAccepted cells b h k
   both-accepted ne = record {
     apart = ne;
-    first = rw (is-done cells b (callOf h) one);
-    second = rw (is-done cells b (callOf h) one, is-done cells (through b (callOf h)) (callOf k) two);
+    first = rw (is-done cells b (callFor h) one);
+    second = rw (is-done cells b (callFor h) one, is-done cells (through b (callFor h)) (callFor k) two);
   }
 
 -- ── 02, L5 ────────────────────────────────────────────────────────────────────────────────────────────────────────────
@@ -207,24 +208,24 @@ either-order cells b h k es s t p = record {
 }
   where
     b₂ : Book
-    b₂ = through (through b (callOf h)) (callOf k)
+    b₂ = through (through b (callFor h)) (callFor k)
 
     b₂′ : Book
-    b₂′ = through (through b (callOf k)) (callOf h)
+    b₂′ = through (through b (callFor k)) (callFor h)
 
     ne : h .cell ≢ k .cell
     ne = p .apart
 
-    one : Takes b (callOf h)
-    one = takes cells b (callOf h) (p .first)
+    one : Takes b (callFor h)
+    one = takes cells b (callFor h) (p .first)
 
-    two : Takes (through b (callOf h)) (callOf k)
-    two = takes cells (through b (callOf h)) (callOf k) (rw (is-done cells b (callOf h) one) at (p .second))
+    two : Takes (through b (callFor h)) (callFor k)
+    two = takes cells (through b (callFor h)) (callFor k) (rw (is-done cells b (callFor h) one) at (p .second))
 
-    one′ : Takes b (callOf k)
+    one′ : Takes b (callFor k)
     one′ = first-taken cells b s h k ne one two
 
-    two′ : Takes (through b (callOf k)) (callOf h)
+    two′ : Takes (through b (callFor k)) (callFor h)
     two′ = second-taken cells b s h k ne one two
 
     later : SameList cells b₂ b₂′ es

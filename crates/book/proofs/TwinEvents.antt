@@ -1,6 +1,6 @@
 -- Two books side by side between calls (`Alongside`): twins, and while they are open the calls find the same in both. Every call and every opening answers and
 -- counts the same for both, and leaves two such books.
-use Prim.Native.Nat.{ℕ, zero, suc, _+_}
+use Prim.Native.Nat.{ℕ, zero, suc}
 use mathlib.Core.Bool.{Bool, true, false, cond, not}
 use mathlib.Core.Path.{_≡_, refl, ap, ap₂, sym, _∙_, subst}
 use mathlib.Core.Logic.{inr}
@@ -28,7 +28,7 @@ use Rattle.book.proofs.Openings.{reopened-stored}
 use Rattle.book.proofs.Force.{reopened-empty}
 use Rattle.book.proofs.Pairs.{pairs-imp}
 use Rattle.book.proofs.SameOpen.{OpenAlike, SameOpen, open-pairs, SameRows, end, last-open, rows-join, taken-back-alike}
-use Rattle.book.proofs.SameInUse.{Over, SameOrOver, SameInUse, same-take-back, same-room, same-scope-fits, same-held, same-rows}
+use Rattle.book.proofs.SameInUse.{HolderOver, SameOrOver, SameInUse, same-take-back, same-room, same-scope-fits, same-held, same-rows}
 use Rattle.book.proofs.TwinBooks.{same-length, Twins, twin-length, twin-stored, twin-cells, twin-open, twin-force, twin-finish, twin-adds}
 
 pub record Alongside (b b′ : Book) : Type 0 where
@@ -149,15 +149,12 @@ closed-in-use rs rs′ al al′ none s =
     record { rows = s .rows; begun = s .begun; active = s .active; undone = s .undone; changes = pairs-imp over (s .changes) }
   where
     is-over : (qs : List Row) → allowedLog qs ≡ true → ledger qs .begun ≡ ledger rs .begun → (x : Change) → In x (ledger qs .changes)
-        → Over (ledger rs .active) (ledger rs .begun) x
-    is-over qs e same x m = record {
-      ended = rw none;
-      old = rw same at (inv-log qs e .good x m .held);
-      own = scoped-log qs .own x m;
-    }
+        → HolderOver (ledger rs) x
+    is-over qs e same x m =
+        record { holder = record { old = rw same at (inv-log qs e .good x m .held); over = rw none }; own = scoped-log qs .own x m }
 
     over : (x y : Change) → In x (ledger rs .changes) → In y (ledger rs′ .changes) → OpenAlike (ledger rs) (ledger rs′) x y
-        → SameOrOver (ledger rs .active) (ledger rs .begun) x y
+        → SameOrOver (ledger rs) x y
     over x y m n o = inr (is-over rs al refl x m, is-over rs′ al′ (s .begun) y n)
 
 module _ (b b′ : Book) (s : Sound b) (s′ : Sound b′) (t : Twins b b′) where

@@ -1,89 +1,164 @@
--- Two hand-overs of different cells in either order (document 02, L5), with later calls, a cut and an opening. By computing.
-use Prim.Native.Nat.{ℕ}
+-- Two hand-overs that follow one another, in either order (document 02, L5), with later calls, cuts and openings: of different cells they give the same,
+-- wherever the power fails; of one cell they do not. By computing.
+use Prim.Native.Nat.{ℕ, suc}
 use native.Mathlib.Omega.{arith}
 use mathlib.Core.Path.{_≡_, refl}
 use mathlib.Core.Bool.{true}
 use mathlib.Core.List.{List, [], _∷_, _++_, map}
-use lib.IntN.{pos, negsuc}
+use lib.ListN.{replicate}
+use lib.IntN.{ℤ, pos, negsuc}
 use Rattle.book.specs.Rows.{Row}
 use Rattle.book.specs.Calls.{Call}
 use Rattle.book.specs.Power.{Fuse, none, left, formatted}
 use Rattle.book.specs.Cells.{zeros}
-use Rattle.book.specs.Book.{done, refusedBy}
-use Rattle.book.specs.Events.{Event, opens, calls, bookAfter}
+use Rattle.book.specs.Book.{Answer, done, refusedBy}
+use Rattle.book.specs.Events.{Event, opens, calls, answers, bookAfter}
+use Rattle.book.specs.Writes.{Writes}
+use Rattle.book.specs.SessionWrites.{writes}
 use Rattle.book.specs.Cases.{Gives}
 use Rattle.book.specs.Swapped.{Single, oneThenOther, BothAccepted}
 use Rattle.book.proofs.WorkedExamples.{computes}
 
 -- 1 hands its change of cell 0 to 3, and 2 its change of cell 7 to 1
-abbrev first : Single
+abbrev pub first : Single
 first = record { giver = 1; receiver = 3; cell = 0 }
 
-abbrev second : Single
+abbrev pub second : Single
 second = record { giver = 2; receiver = 1; cell = 7 }
 
 -- what comes before them: three visits, 1 adds 70 to cell 0, 2 takes 80 from cell 7
-abbrev before : Fuse → List Event
-before f = opens true f ∷ map (calls true) (Call.begin ∷ Call.begin ∷ Call.begin ∷ Call.change 1 0 (pos 70) ∷ Call.change 2 7 (negsuc 79) ∷ [])
+abbrev pub threeVisits : Fuse → List Event
+threeVisits f = opens true f ∷ map (calls true) (Call.begin ∷ Call.begin ∷ Call.begin ∷ Call.change 1 0 (pos 70) ∷ Call.change 2 7 (negsuc 79) ∷ [])
 
--- both are accepted in this order; that they are in the other follows (Swapped), and is seen in the answers below
-pub accepted-in-order : BothAccepted zeros (bookAfter zeros formatted (before none)) first second
+-- both are accepted in this order, with each fuse that lets the begin rows land; that they are in the other follows (Swapped), and is seen in the answers below
+pub accepted-in-order : (cells : ℕ → ℤ) (n : ℕ) → BothAccepted cells (bookAfter cells formatted (threeVisits (left (suc (suc (suc n)))))) first second
 unfolding computes
-accepted-in-order = record { apart = λ e. omega arith; first = refl; second = refl }
+accepted-in-order cells n = record { apart = λ e. omega arith; first = refl; second = refl }
 
--- ── Without a cut ─────────────────────────────────────────────────────────────────────────────────────────────────────
+-- the answers of what comes before
+abbrev soFar : List Answer
+soFar = done (pos 0) ∷ done (pos 1) ∷ done (pos 2) ∷ done (pos 3) ∷ done (pos 4) ∷ done (pos 5) ∷ []
 
--- 1 aborts, 3 and 2 commit; cells 0 and 7 are read, before an opening and after it: what 3 was handed is kept, and what 1 was handed is undone
+-- what the two and the events `es` are answered in both orders
+abbrev InBoth : Fuse → List Event → List Answer → Type 0
+InBoth f es given =
+    Gives zeros (threeVisits f ++ oneThenOther first second es) (soFar ++ given) × Gives zeros (threeVisits f ++ oneThenOther second first es) (soFar ++ given)
+
+-- ── Both rows are kept ────────────────────────────────────────────────────────────────────────────────────────────────
+
+-- 1 aborts, 3 and 2 commit; cells 0 and 7 are read, before an opening and after it
 abbrev later : List Event
 later =
     map (calls true) (Call.abort 1 ∷ Call.commit 3 ∷ Call.commit 2 ∷ Call.read 0 ∷ Call.read 7 ∷ []) ++
     (opens true none ∷ map (calls true) (Call.read 0 ∷ Call.read 7 ∷ []))
 
-pub one-order : Gives zeros (before none ++ oneThenOther first second later)
-    (done (pos 0) ∷ done (pos 1) ∷ done (pos 2) ∷ done (pos 3) ∷ done (pos 4) ∷ done (pos 5) ∷ done (pos 6) ∷ done (pos 7) ∷
-    done (pos 9) ∷ done (pos 10) ∷ done (pos 11) ∷ done (pos 70) ∷ done (pos 0) ∷ done (pos 0) ∷ done (pos 70) ∷ done (pos 0) ∷ [])
+-- the power holds: what 3 was handed is kept, and what 1 was handed is undone
+pub power-holds : InBoth none later
+    (done (pos 6) ∷ done (pos 7) ∷ done (pos 9) ∷ done (pos 10) ∷ done (pos 11) ∷ done (pos 70) ∷ done (pos 0) ∷
+    done (pos 0) ∷ done (pos 70) ∷ done (pos 0) ∷ [])
 unfolding computes
-one-order = refl
+power-holds = (refl, refl)
 
-pub other-order : Gives zeros (before none ++ oneThenOther second first later)
-    (done (pos 0) ∷ done (pos 1) ∷ done (pos 2) ∷ done (pos 3) ∷ done (pos 4) ∷ done (pos 5) ∷ done (pos 6) ∷ done (pos 7) ∷
-    done (pos 9) ∷ done (pos 10) ∷ done (pos 11) ∷ done (pos 70) ∷ done (pos 0) ∷ done (pos 0) ∷ done (pos 70) ∷ done (pos 0) ∷ [])
+-- the first commit stores the seven rows that wait, in either order
+abbrev counted : List Writes
+counted = rows 0 ∷ rows 1 ∷ rows 1 ∷ rows 1 ∷ replicate 5 (rows 0) ++ (rows 7 ∷ rows 1 ∷ replicate 5 (rows 0))
+  where
+    rows : ℕ → Writes
+    rows n = record { rows = n; pages = 0 }
+
+pub power-holds-counts : (writes zeros formatted (threeVisits none ++ oneThenOther first second later) ≡ counted) ×
+    (writes zeros formatted (threeVisits none ++ oneThenOther second first later) ≡ counted)
 unfolding computes
-other-order = refl
+power-holds-counts = (refl, refl)
 
--- ── A cut that keeps just one of the two rows ─────────────────────────────────────────────────────────────────────────
+-- seven writes land, the two rows last; the commit is cut behind them
+pub both-kept : InBoth (left 7) later
+    (done (pos 6) ∷ done (pos 7) ∷ done (pos 9) ∷ refusedBy 5 ∷ refusedBy 5 ∷ refusedBy 5 ∷ refusedBy 5 ∷
+    done (pos 5) ∷ done (pos 0) ∷ done (pos 0) ∷ [])
+unfolding computes
+both-kept = (refl, refl)
 
--- the fuse lets the three begin rows, the two changes and the first of the two hand-overs land; the force is cut at the second
-abbrev cut : List Event
-cut =
+-- ── Just one of them is kept ──────────────────────────────────────────────────────────────────────────────────────────
+
+-- a force, which is cut; after an opening visit 4 adds 5 to cell 0
+abbrev pub forced : List Event
+forced =
     map (calls true) (Call.force ∷ Call.read 0 ∷ []) ++
     (opens true none ∷ map (calls true) (Call.read 0 ∷ Call.read 7 ∷ Call.begin ∷ Call.change 4 0 (pos 5) ∷ Call.commit 4 ∷ Call.read 0 ∷ []))
 
-pub one-order-cut : Gives zeros (before (left 6) ++ oneThenOther first second cut)
-    (done (pos 0) ∷ done (pos 1) ∷ done (pos 2) ∷ done (pos 3) ∷ done (pos 4) ∷ done (pos 5) ∷ done (pos 6) ∷ done (pos 7) ∷
-    refusedBy 5 ∷ refusedBy 5 ∷ done (pos 5) ∷ done (pos 0) ∷ done (pos 0) ∷ done (pos 4) ∷ done (pos 13) ∷ done (pos 14) ∷ done (pos 5) ∷ [])
+-- six writes land, the first of the two rows last
+pub one-kept : InBoth (left 6) forced
+    (done (pos 6) ∷ done (pos 7) ∷ refusedBy 5 ∷ refusedBy 5 ∷
+    done (pos 5) ∷ done (pos 0) ∷ done (pos 0) ∷ done (pos 4) ∷ done (pos 13) ∷ done (pos 14) ∷ done (pos 5) ∷ [])
 unfolding computes
-one-order-cut = refl
-
-pub other-order-cut : Gives zeros (before (left 6) ++ oneThenOther second first cut)
-    (done (pos 0) ∷ done (pos 1) ∷ done (pos 2) ∷ done (pos 3) ∷ done (pos 4) ∷ done (pos 5) ∷ done (pos 6) ∷ done (pos 7) ∷
-    refusedBy 5 ∷ refusedBy 5 ∷ done (pos 5) ∷ done (pos 0) ∷ done (pos 0) ∷ done (pos 4) ∷ done (pos 13) ∷ done (pos 14) ∷ done (pos 5) ∷ [])
-unfolding computes
-other-order-cut = refl
+one-kept = (refl, refl)
 
 -- the two logs differ in the hand-over that was kept, and in the holders that the undo rows name
-abbrev begun : List Row
-begun = Row.begin 1 ∷ Row.begin 2 ∷ Row.begin 3 ∷ Row.change 1 0 (pos 70) ∷ Row.change 2 7 (negsuc 79) ∷ []
+abbrev rowsBefore : List Row
+rowsBefore = Row.begin 1 ∷ Row.begin 2 ∷ Row.begin 3 ∷ Row.change 1 0 (pos 70) ∷ Row.change 2 7 (negsuc 79) ∷ []
 
-abbrev ended : List Row
-ended = Row.abort 3 ∷ Row.abort 2 ∷ Row.abort 1 ∷ Row.begin 4 ∷ Row.change 4 0 (pos 5) ∷ Row.commit 4 ∷ []
+abbrev rowsAfter : List Row
+rowsAfter = Row.abort 3 ∷ Row.abort 2 ∷ Row.abort 1 ∷ Row.begin 4 ∷ Row.change 4 0 (pos 5) ∷ Row.commit 4 ∷ []
 
-pub one-log : bookAfter zeros formatted (before (left 6) ++ oneThenOther first second cut) .stored ≡
-    begun ++ (Row.handOver 1 3 0 ∷ Row.undo 2 7 5 (negsuc 79) ∷ Row.undo 3 0 4 (pos 70) ∷ ended)
+pub log-of-first : bookAfter zeros formatted (threeVisits (left 6) ++ oneThenOther first second forced) .stored ≡
+    rowsBefore ++ (Row.handOver 1 3 0 ∷ Row.undo 2 7 5 (negsuc 79) ∷ Row.undo 3 0 4 (pos 70) ∷ rowsAfter)
 unfolding computes
-one-log = refl
+log-of-first = refl
 
-pub other-log : bookAfter zeros formatted (before (left 6) ++ oneThenOther second first cut) .stored ≡
-    begun ++ (Row.handOver 2 1 7 ∷ Row.undo 1 7 5 (negsuc 79) ∷ Row.undo 1 0 4 (pos 70) ∷ ended)
+pub log-of-second : bookAfter zeros formatted (threeVisits (left 6) ++ oneThenOther second first forced) .stored ≡
+    rowsBefore ++ (Row.handOver 2 1 7 ∷ Row.undo 1 7 5 (negsuc 79) ∷ Row.undo 1 0 4 (pos 70) ∷ rowsAfter)
 unfolding computes
-other-log = refl
+log-of-second = refl
+
+-- 63 rows wait before the two, so that the second of them stores a full tail, the first with it, and waits alone
+abbrev manyBefore : List Event
+manyBefore = threeVisits none ++ replicate 61 (calls true (Call.change 1 0 (pos 1)))
+
+pub second-waits : (bookAfter zeros formatted (manyBefore ++ oneThenOther first second []) .waiting ≡ Row.handOver 2 1 7 ∷ []) ×
+    (bookAfter zeros formatted (manyBefore ++ oneThenOther second first []) .waiting ≡ Row.handOver 1 3 0 ∷ [])
+unfolding computes
+second-waits = (refl, refl)
+
+-- no power fails, and the opening finds just one of them
+abbrev reopened : List Event
+reopened = opens true none ∷ map (calls true) (Call.read 0 ∷ Call.read 7 ∷ [])
+
+abbrev given66 : List Answer
+given66 = done (pos 67) ∷ done (pos 68) ∷ done (pos 66) ∷ done (pos 0) ∷ done (pos 0) ∷ []
+
+pub one-kept-by-opening : (answers zeros (bookAfter zeros formatted manyBefore) (oneThenOther first second reopened) ≡ given66) ×
+    (answers zeros (bookAfter zeros formatted manyBefore) (oneThenOther second first reopened) ≡ given66)
+unfolding computes
+one-kept-by-opening = (refl, refl)
+
+-- ── Neither is kept ───────────────────────────────────────────────────────────────────────────────────────────────────
+
+-- five writes land, the second change last
+pub none-kept : InBoth (left 5) forced
+    (done (pos 6) ∷ done (pos 7) ∷ refusedBy 5 ∷ refusedBy 5 ∷
+    done (pos 5) ∷ done (pos 0) ∷ done (pos 0) ∷ done (pos 4) ∷ done (pos 12) ∷ done (pos 13) ∷ done (pos 5) ∷ [])
+unfolding computes
+none-kept = (refl, refl)
+
+-- an opening at once: the two rows, which wait, are lost with the changes
+pub none-kept-by-opening : InBoth none reopened (done (pos 6) ∷ done (pos 7) ∷ done (pos 3) ∷ done (pos 0) ∷ done (pos 0) ∷ [])
+unfolding computes
+none-kept-by-opening = (refl, refl)
+
+-- ── One cell ──────────────────────────────────────────────────────────────────────────────────────────────────────────
+
+-- 1 adds 70 and 2 adds 5 to cell 0. 1 hands the cell to 2, and 2 to 3; 2 aborts and 3 commits. Accepted in either order, but what 1 added goes on to 3 only
+-- if it was handed to 2 before.
+abbrev ofOneCell : List Call → List Event
+ofOneCell ks = opens true none ∷ map (calls true)
+    (Call.begin ∷ Call.begin ∷ Call.begin ∷ Call.change 1 0 (pos 70) ∷ Call.change 2 0 (pos 5) ∷ ks ++ (Call.abort 2 ∷ Call.commit 3 ∷ Call.read 0 ∷ []))
+
+pub one-cell : Gives zeros (ofOneCell (Call.handOver 1 2 0 ∷ Call.handOver 2 3 0 ∷ []))
+    (soFar ++ (done (pos 6) ∷ done (pos 7) ∷ done (pos 8) ∷ done (pos 9) ∷ done (pos 75) ∷ []))
+unfolding computes
+one-cell = refl
+
+pub one-cell-swapped : Gives zeros (ofOneCell (Call.handOver 2 3 0 ∷ Call.handOver 1 2 0 ∷ []))
+    (soFar ++ (done (pos 6) ∷ done (pos 7) ∷ done (pos 9) ∷ done (pos 10) ∷ done (pos 5) ∷ []))
+unfolding computes
+one-cell-swapped = refl

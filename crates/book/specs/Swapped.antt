@@ -19,11 +19,15 @@ pub record Single : Type 0 where
   pub receiver : ℕ
   pub cell : ℕ
 
--- the call that asks for it
-abbrev pub eventFor : Single → Event
-eventFor h = calls true (Call.handOver (h .giver) (h .receiver) (h .cell))
+-- the call that asks for it, and the event: its buffers have 01's lengths
+abbrev pub callFor : Single → Call
+callFor h = Call.handOver (h .giver) (h .receiver) (h .cell)
 
--- 02: "two single hand-overs (kind 3) of different cells that follow one another and are both accepted"
+abbrev pub eventFor : Single → Event
+eventFor h = calls true (callFor h)
+
+-- 02: "two single hand-overs (kind 3) of different cells that follow one another and are both accepted": answered 0, which is more than that no check refuses
+-- them, since a full tail that the call stores first may meet a power failure
 pub record BothAccepted (cells : ℕ → ℤ) (b : Book) (h k : Single) : Type 0 where
   pub apart : h .cell ≢ k .cell
   pub first : happens cells b (eventFor h) .answer .number ≡ 0

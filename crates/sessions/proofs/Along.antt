@@ -1,8 +1,8 @@
 -- Along the steps of the sessions: after any number of them the store's values stand for the book, and the host and the contracts go on from there.
 use Prim.Native.Nat.{ℕ, suc}
-use mathlib.Core.Path.{_≡_, refl, ap₂, _∙_}
+use mathlib.Core.Path.{_≡_, refl, ap, ap₂, _∙_}
 use mathlib.Core.Bool.{Bool, cond, true, false}
-use mathlib.Core.List.{List, [], _∷_, _++_, map}
+use mathlib.Core.List.{List, [], _∷_, _++_, map, map-append}
 use lib.IntN.{ℤ}
 use lib.ListN.{length}
 use Rattle.book.specs.Writes.{Writes}
@@ -11,7 +11,7 @@ use Rattle.sessions.specs.Demand3.{isFlushDone}
 use Rattle.book.specs.Lists.{foldl, keep}
 use Rattle.book.specs.Power.{Book}
 use Rattle.book.specs.Book.{Answer}
-use Rattle.book.specs.Events.{happens, answers, bookAfter}
+use Rattle.book.specs.Events.{Event, happens, answers, bookAfter}
 use Rattle.book.proofs.Sound.{TypedEvents}
 use Rattle.book.proofs.Pages.{Bounded}
 use Rattle.state.specs.World.{World}
@@ -24,11 +24,15 @@ typed own follow [] ys h = tt
 typed own follow (opened o ∷ xs) ys h = (tt, typed _ _ xs ys (h .1))
 typed own follow (called c ∷ xs) ys h = (h .0 .1, typed _ _ xs ys (h .1))
 
--- the book after some steps and then others
+-- the book after some events and then others
+pub book-then : (cells : ℕ → ℤ) (b : Book) (xs ys : List Event) → bookAfter cells b (xs ++ ys) ≡ bookAfter cells (bookAfter cells b xs) ys
+book-then cells b [] ys = refl
+book-then cells b (x ∷ xs) ys = book-then cells (happens cells b x .book) xs ys
+
+-- and after some steps and then others
 pub book-append : (cells : ℕ → ℤ) (b : Book) (xs ys : List Step)
     → bookAfter cells b (map eventOf (xs ++ ys)) ≡ bookAfter cells (bookAfter cells b (map eventOf xs)) (map eventOf ys)
-book-append cells b [] ys = refl
-book-append cells b (x ∷ xs) ys = book-append cells (happens cells b (eventOf x) .book) xs ys
+book-append cells b xs ys = ap (bookAfter cells b) (map-append eventOf xs ys) ∙ book-then cells b (map eventOf xs) (map eventOf ys)
 
 -- what holds before the steps `ss`
 pub record At (cells : ℕ → ℤ) (b : Book) (own : World) (follow : Bool) (ss : List Step) : Type 0 where

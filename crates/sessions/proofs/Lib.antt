@@ -13,4 +13,5 @@ pub mod Places
 pub mod Swapped
 pub mod Freedom
 pub mod Made
+pub mod SwappedOccurs
 pub mod SwappedMade

@@ -2,19 +2,22 @@
 -- a place.
 use Prim.Native.Nat.{ℕ}
 use native.Mathlib.Omega.{arith}
-use mathlib.Core.Bool.{true}
-use mathlib.Core.Path.{_≡_, refl, ap, ap₂, sym, subst}
-use mathlib.Core.List.{List, [], _∷_, _++_, map, append-nil, head-eq-of-cons-eq, tail-eq-of-cons-eq}
+use mathlib.Core.Bool.{Bool, true}
+use mathlib.Core.Path.{_≡_, refl, ap, ap₂, sym, _∙_, subst}
+use mathlib.Core.List.{List, [], _∷_, _++_, map, map-append, append-nil, head-eq-of-cons-eq, tail-eq-of-cons-eq}
 use lib.ListN.{length}
 use lib.IntN.{ℤ}
-use Rattle.book.specs.Power.{Book}
+use Rattle.book.specs.Power.{Book, Fuse}
+use Rattle.book.specs.Calls.{Call}
 use Rattle.book.specs.Book.{Answer}
-use Rattle.book.specs.Events.{Event, happens, answers, bookAfter}
+use Rattle.book.specs.Events.{Event, opens, calls, happens, answers, bookAfter}
 use Rattle.book.specs.Writes.{Writes}
 use Rattle.book.specs.SessionWrites.{eventWrites, writes}
+use Rattle.book.specs.Swapped.{Single, oneThenOther}
 use Rattle.book.proofs.Sound.{TypedEvents}
 use Rattle.state.specs.World.{World}
-use Rattle.sessions.specs.Host.{Step, answerOf, eventOf, Host}
+use Rattle.sessions.specs.Host.{Step, opened, called, answerOf, eventOf, Host}
+use Rattle.sessions.specs.Swapped.{TwoHandOvers}
 use Rattle.sessions.proofs.Along.{typed}
 
 -- ── Places in lists ─────────────────────────────────────────────────────────────────────────────────────────────────────────────
@@ -64,25 +67,19 @@ module _ (cells : ℕ → ℤ) where
   writes-then [] ys zs b e = e
   writes-then (x ∷ xs) ys zs b e = ap (λ (r : List Writes). eventWrites cells b x ∷ r) (writes-then xs ys zs (happens cells b x .book) e)
 
-  pub book-then : (xs ys : List Event) (b : Book) → bookAfter cells b (xs ++ ys) ≡ bookAfter cells (bookAfter cells b xs) ys
-  book-then [] ys b = refl
-  book-then (x ∷ xs) ys b = book-then xs ys (happens cells b x .book)
-
-  -- the answers of two events next to one another
-  pub answers-of-two : (xs : List Event) (x y : Event) (zs : List Event) (b : Book) (earlier : List Answer) (one two : Answer) (rest : List Answer)
-      → length earlier ≡ length xs → answers cells b (xs ++ (x ∷ y ∷ zs)) ≡ earlier ++ (one ∷ two ∷ rest)
-      → (happens cells (bookAfter cells b xs) x .answer ≡ one) × (happens cells (happens cells (bookAfter cells b xs) x .book) y .answer ≡ two)
-  answers-of-two [] x y zs b [] one two rest n e = (head-eq-of-cons-eq e, head-eq-of-cons-eq (tail-eq-of-cons-eq e))
-  answers-of-two [] x y zs b (a ∷ earlier) one two rest n e = absurd (omega arith)
-  answers-of-two (w ∷ xs) x y zs b [] one two rest n e = absurd (omega arith)
-  answers-of-two (w ∷ xs) x y zs b (a ∷ earlier) one two rest n e =
-      answers-of-two xs x y zs (happens cells b w .book) earlier one two rest (omega arith) (tail-eq-of-cons-eq e)
-
   -- the answer of a step, where each answer is the book's
   pub answer-at : (xs ys : List Step) (s : Step) (b : Book) → map answerOf (xs ++ (s ∷ ys)) ≡ answers cells b (map eventOf (xs ++ (s ∷ ys)))
       → answerOf s ≡ happens cells (bookAfter cells b (map eventOf xs)) (eventOf s) .answer
   answer-at [] ys s b e = head-eq-of-cons-eq e
   answer-at (x ∷ xs) ys s b e = answer-at xs ys s (happens cells b (eventOf x) .book) (tail-eq-of-cons-eq e)
+
+  -- and the answers of two steps that follow one another
+  pub answers-of-two : (xs ys : List Step) (s t : Step) (b : Book)
+      → map answerOf (xs ++ (s ∷ t ∷ ys)) ≡ answers cells b (map eventOf (xs ++ (s ∷ t ∷ ys)))
+      → (answerOf s ≡ happens cells (bookAfter cells b (map eventOf xs)) (eventOf s) .answer) ×
+      (answerOf t ≡ happens cells (happens cells (bookAfter cells b (map eventOf xs)) (eventOf s) .book) (eventOf t) .answer)
+  answers-of-two [] ys s t b e = (head-eq-of-cons-eq e, head-eq-of-cons-eq (tail-eq-of-cons-eq e))
+  answers-of-two (x ∷ xs) ys s t b e = answers-of-two xs ys s t (happens cells b (eventOf x) .book) (tail-eq-of-cons-eq e)
 
 -- the answers at one place of two lists
 pub answers-at : (xs ys xs′ ys′ : List Step) (s s′ : Step) → length xs′ ≡ length xs → map answerOf (xs′ ++ (s′ ∷ ys′)) ≡ map answerOf (xs ++ (s ∷ ys))
@@ -91,6 +88,54 @@ answers-at [] ys [] ys′ s s′ n e = head-eq-of-cons-eq e
 answers-at [] ys (x ∷ xs′) ys′ s s′ n e = absurd (omega arith)
 answers-at (x ∷ xs) ys [] ys′ s s′ n e = absurd (omega arith)
 answers-at (x ∷ xs) ys (x′ ∷ xs′) ys′ s s′ n e = answers-at xs ys xs′ ys′ s s′ (omega arith) (tail-eq-of-cons-eq e)
+
+-- ── Steps by their events ─────────────────────────────────────────────────────────────────────────────────────────────
+
+pub no-events : {x : Event} {xs : List Event} {X : Type 0} → Path (List Event) [] (x ∷ xs) → X
+no-events e = let z : _≡_ {A = ℕ} 0 1 = cc e in absurd (omega arith)
+
+no-opening : {l l′ : Bool} {f : Fuse} {k : Call} {X : Type 0} → Path Event (opens l f) (calls l′ k) → X
+no-opening e = let z : _≡_ {A = ℕ} 0 1 = cc e in absurd (omega arith)
+
+-- the events of steps with two hand-overs that follow one another
+pub events-of-two : (before : List Event) (h k : Single) (later : List Event) (ss : List Step) → TwoHandOvers before h k later ss
+    → map eventOf ss ≡ before ++ oneThenOther h k later
+events-of-two before h k later ss w =
+    ap (map eventOf) (w .are) ∙ map-append eventOf (w .xs) (called (w .c) ∷ called (w .d) ∷ w .ys) ∙
+    ap₂ _++_ (w .sooner) (ap₂ _∷_ (w .one) (ap₂ _∷_ (w .other) (w .after)))
+
+-- and the steps of such events
+pub two-hand-overs : (before : List Event) (h k : Single) (later : List Event) (ss : List Step) → map eventOf ss ≡ before ++ oneThenOther h k later
+    → TwoHandOvers before h k later ss
+two-hand-overs [] h k later [] e = no-events e
+two-hand-overs [] h k later (opened o ∷ ss) e = no-opening (head-eq-of-cons-eq e)
+two-hand-overs [] h k later (called c ∷ []) e = no-events (tail-eq-of-cons-eq e)
+two-hand-overs [] h k later (called c ∷ opened o ∷ ss) e = no-opening (head-eq-of-cons-eq (tail-eq-of-cons-eq e))
+two-hand-overs [] h k later (called c ∷ called d ∷ ss) e = record {
+  xs = [];
+  c = c;
+  d = d;
+  ys = ss;
+  are = refl;
+  sooner = refl;
+  one = head-eq-of-cons-eq e;
+  other = head-eq-of-cons-eq (tail-eq-of-cons-eq e);
+  after = tail-eq-of-cons-eq (tail-eq-of-cons-eq e);
+}
+two-hand-overs (x ∷ before) h k later [] e = no-events e
+two-hand-overs (x ∷ before) h k later (s ∷ ss) e =
+    let r = two-hand-overs before h k later ss (tail-eq-of-cons-eq e) in
+    record {
+      xs = s ∷ r .xs;
+      c = r .c;
+      d = r .d;
+      ys = r .ys;
+      are = ap (λ (l : List Step). s ∷ l) (r .are);
+      sooner = ap₂ _∷_ (head-eq-of-cons-eq e) (r .sooner);
+      one = r .one;
+      other = r .other;
+      after = r .after;
+    }
 
 pub typed-parts : (xs ys : List Event) → TypedEvents (xs ++ ys) → TypedEvents xs × TypedEvents ys
 typed-parts [] ys t = (tt, t)

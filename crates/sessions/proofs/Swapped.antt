@@ -3,6 +3,7 @@ use Prim.Native.Nat.{ℕ, _<_}
 use native.Mathlib.Omega.{arith}
 use mathlib.Core.Bool.{Bool, true}
 use mathlib.Core.Path.{_≡_, ap, ap₂, sym, _∙_, subst}
+use mathlib.Core.Logic.{_≢_}
 use mathlib.Core.List.{List, [], _∷_, _++_, map, map-append, append-assoc, head-eq-of-cons-eq}
 use lib.ListN.{length, length-append, length-map}
 use lib.IntN.{ℤ}
@@ -10,21 +11,20 @@ use Rattle.book.specs.Limits.{cellLimit}
 use Rattle.book.specs.Pages.{cellOf}
 use Rattle.book.specs.Cells.{keptSum}
 use Rattle.book.specs.Power.{Book, Fuse, formatted}
-use Rattle.book.specs.Book.{Answer, opening}
-use Rattle.book.specs.Events.{Event, answers, bookAfter}
+use Rattle.book.specs.Book.{Answer, Outcome, opening}
+use Rattle.book.specs.Events.{Event, happens, answers, bookAfter}
 use Rattle.book.specs.SessionWrites.{writes}
 use Rattle.book.specs.Swapped.{Single, eventFor, BothAccepted, oneThenOther, EitherOrder}
 use Rattle.book.proofs.Sound.{TypedEvents, sound-formatted, sound-events}
 use Rattle.book.proofs.Swapped.{either-order}
 use Rattle.state.specs.World.{World, rightLengths}
-use Rattle.state.specs.Contracts.{Answered, FormatPost, cellsOf}
-use Rattle.sessions.specs.Host.{Opening, Session, Step, opened, steps, answerOf, writesOf, eventOf, worldAfterAll, Host}
+use Rattle.state.specs.Contracts.{cellsOf}
+use Rattle.sessions.specs.Host.{Opening, Step, opened, called, steps, answerOf, writesOf, eventOf, worldAfterAll}
 use Rattle.sessions.specs.Demand3.{Holds, Demand3}
-use Rattle.sessions.specs.Swapped.{Accepted, SameResults, Swapped}
-use Rattle.sessions.proofs.Along.{book-append}
+use Rattle.sessions.specs.Swapped.{TwoHandOvers, Accepted, SameResults, Swapped}
+use Rattle.sessions.proofs.Along.{book-then, book-append}
 use Rattle.sessions.proofs.Demand3.{demand-3}
-use Rattle.sessions.proofs.EveryList.{Lawful, every-list}
-use Rattle.sessions.proofs.Places.{parts, Place, inBefore, isFirst, isSecond, inLater, place, answers-then, writes-then, book-then, answers-of-two, answer-at, answers-at, typed-parts, typed-join, steps-typed}
+use Rattle.sessions.proofs.Places.{parts, Place, inBefore, isFirst, isSecond, inLater, place, answers-then, writes-then, answer-at, answers-of-two, answers-at, events-of-two, two-hand-overs, typed-parts, steps-typed}
 use Rattle.sessions.proofs.ReadyOpenings.{ready-lengths}
 
 -- ── A ready opening of one list ───────────────────────────────────────────────────────────────────────────────────────
@@ -51,6 +51,31 @@ module _ (cells : ℕ → ℤ) (own : World) (ss : List Step) (holds : Holds cel
       ap (λ (b : Book). keptSum cells (b .stored) c) (book-append cells formatted xs (opened o ∷ []) ∙
       ap (λ (t : Bool). opening bookThere t (o .fuse) .book) lengths-there)
 
+-- ── Two hand-overs by the book ────────────────────────────────────────────────────────────────────────────────────────
+
+module _ (cells : ℕ → ℤ) (before : List Event) (h k : Single) (later : List Event) (ss : List Step) (w : TwoHandOvers before h k later ss)
+    (by-book : map answerOf ss ≡ answers cells formatted (map eventOf ss)) where
+  -- the book before the two, and what each of them is answered by it
+  abbrev bookBefore : Book
+  bookBefore = bookAfter cells formatted before
+
+  numbers-of-two : (w .c .result .answer .number ≡ happens cells bookBefore (eventFor h) .answer .number) ×
+      (w .d .result .answer .number ≡ happens cells (happens cells bookBefore (eventFor h) .book) (eventFor k) .answer .number)
+  numbers-of-two =
+      let r = answers-of-two cells (w .xs) (w .ys) (called (w .c)) (called (w .d)) formatted (rw (w .are) at by-book) in
+      let one = ap₂ (happens cells) (ap (bookAfter cells formatted) (w .sooner)) (w .one) in
+      let two = ap₂ (happens cells) (ap (λ (o : Outcome). o .book) one) (w .other) in
+      (ap (λ (x : Answer). x .number) (r .0 ∙ ap (λ (o : Outcome). o .answer) one), ap (λ (x : Answer). x .number) (r .1 ∙ ap (λ (o : Outcome). o .answer) two))
+
+  -- accepted in the sessions is accepted by the book
+  book-accepts : h .cell ≢ k .cell → w .c .result .answer .number ≡ 0 → w .d .result .answer .number ≡ 0 → BothAccepted cells bookBefore h k
+  book-accepts ne p q = record { apart = ne; first = sym (numbers-of-two .0) ∙ p; second = sym (numbers-of-two .1) ∙ q }
+
+  -- and the other way round
+  pub accepted-by-book : BothAccepted cells bookBefore h k → Accepted before h k later ss
+  accepted-by-book p =
+      record { two = w; apart = p .apart; first = numbers-of-two .0 ∙ p .first; second = numbers-of-two .1 ∙ p .second }
+
 -- ── Two lists ─────────────────────────────────────────────────────────────────────────────────────────────────────────
 
 module _ (cells : ℕ → ℤ) (own : World) (before : List Event) (h k : Single) (later : List Event) (ss ss′ : List Step) (holds : Holds cells own ss)
@@ -60,21 +85,17 @@ module _ (cells : ℕ → ℤ) (own : World) (before : List Event) (h k : Single
   abbrev b : Book
   b = bookAfter cells formatted before
 
+  events : map eventOf ss ≡ before ++ oneThenOther h k later
+  events = events-of-two before h k later ss (a .two)
+
   typed-before : TypedEvents before × TypedEvents later
-  typed-before = let r = typed-parts before (oneThenOther h k later) (subst TypedEvents (a .events) t) in (r .0, r .1 .1 .1)
+  typed-before = let r = typed-parts before (oneThenOther h k later) (subst TypedEvents events t) in (r .0, r .1 .1 .1)
 
   by-the-book : map answerOf ss ≡ answers cells formatted (before ++ oneThenOther h k later)
-  by-the-book = holds .answers ∙ ap (answers cells formatted) (a .events)
+  by-the-book = holds .answers ∙ ap (answers cells formatted) events
 
   both : BothAccepted cells b h k
-  both =
-      let r = answers-of-two cells before (eventFor h) (eventFor k) later formatted (a .earlier) (a .one) (a .two) (a .rest) (a .place)
-      (sym by-the-book ∙ a .answers) in
-      record {
-        apart = a .apart;
-        first = ap (λ (x : Answer). x .number) (r .0) ∙ a .first;
-        second = ap (λ (x : Answer). x .number) (r .1) ∙ a .second;
-      }
+  both = book-accepts cells before h k later ss (a .two) (holds .answers) (a .apart) (a .first) (a .second)
 
   either : (es : List Event) → TypedEvents es → EitherOrder cells b h k es
   either es typed-es = either-order cells b h k es (sound-events cells formatted before sound-formatted (typed-before .0)) typed-es both
@@ -88,21 +109,11 @@ module _ (cells : ℕ → ℤ) (own : World) (before : List Event) (h k : Single
   same-counts =
       holds′ .counts ∙ ap (writes cells formatted) other ∙
       writes-then cells before (oneThenOther k h later) (oneThenOther h k later) formatted (either later (typed-before .1) .counts) ∙
-      sym (holds .counts ∙ ap (writes cells formatted) (a .events))
+      sym (holds .counts ∙ ap (writes cells formatted) events)
 
   swapped-accepted : Accepted before k h later ss′
-  swapped-accepted = record {
-    events = other;
-    apart = λ e. a .apart (sym e);
-    earlier = a .earlier;
-    one = a .one;
-    two = a .two;
-    rest = a .rest;
-    answers = same-answers ∙ a .answers;
-    place = a .place;
-    first = a .first;
-    second = a .second;
-  }
+  swapped-accepted =
+      accepted-by-book cells before k h later ss′ (two-hand-overs before k h later ss′ other) (holds′ .answers) (either later (typed-before .1) .accepted)
 
   module _ (xs ys xs′ ys′ : List Step) (o o′ : Opening) (e : ss ≡ xs ++ (opened o ∷ ys)) (e′ : ss′ ≡ xs′ ++ (opened o′ ∷ ys′)) (n : length xs′ ≡ length xs)
       (zero′ : o .result .answer .number ≡ 0) where
@@ -143,11 +154,11 @@ module _ (cells : ℕ → ℤ) (own : World) (before : List Event) (h k : Single
         let p = there′ (before ++ oneThenOther k h zs) ws (eventOf (opened o)) len split in
         let f : o′ .fuse ≡ o .fuse = cc (p .1) in
         let is : bookAfter cells formatted (map eventOf xs) ≡ bookAfter cells b (oneThenOther h k zs) =
-        ap (bookAfter cells formatted) q ∙ book-then cells before (oneThenOther h k zs) formatted in
+        ap (bookAfter cells formatted) q ∙ book-then cells formatted before (oneThenOther h k zs) in
         let ready = ap (λ (x : Book). opening x true (o .fuse) .answer .number) (sym is) ∙ ready-there cells own ss holds xs ys o e zero′ in
         let typed-zs = typed-parts zs (eventOf (opened o) ∷ ws) (subst TypedEvents r (typed-before .1)) .0 in
         ap₂ (λ (es : List Event) (g : Fuse). sumAfter es g c) (p .0) f ∙
-        ap (λ (x : Book). keptSum cells (opening x true (o .fuse) .book .stored) c) (book-then cells before (oneThenOther k h zs) formatted) ∙
+        ap (λ (x : Book). keptSum cells (opening x true (o .fuse) .book .stored) c) (book-then cells formatted before (oneThenOther k h zs)) ∙
         either zs typed-zs .sums (o .fuse) ready c ∙ ap (λ (x : Book). keptSum cells (opening x true (o .fuse) .book .stored) c) (sym is)
 
   same-cells : (xs ys xs′ ys′ : List Step) (o o′ : Opening) → ss ≡ xs ++ (opened o ∷ ys) → ss′ ≡ xs′ ++ (opened o′ ∷ ys′) → length xs′ ≡ length xs
@@ -155,7 +166,7 @@ module _ (cells : ℕ → ℤ) (own : World) (before : List Event) (h k : Single
       → cellOf (worldAfterAll own (xs′ ++ (opened o′ ∷ [])) .copy) c ≡ cellOf (worldAfterAll own (xs ++ (opened o ∷ [])) .copy) c
   same-cells xs ys xs′ ys′ o o′ e e′ n zero′ c lt =
       let where′ = place before (eventFor h) (eventFor k) later (map eventOf xs) (eventOf (opened o)) (map eventOf ys)
-      (sym (a .events) ∙ ap (map eventOf) e ∙ map-append eventOf xs (opened o ∷ ys)) in
+      (sym events ∙ ap (map eventOf) e ∙ map-append eventOf xs (opened o ∷ ys)) in
       cell-there cells own ss′ holds′ xs′ ys′ o′ e′ (zero″ xs ys xs′ ys′ o o′ e e′ n zero′) c lt ∙ same-sum xs ys xs′ ys′ o o′ e e′ n zero′ c where′ ∙
       sym (cell-there cells own ss holds xs ys o e zero′ c lt)
 
@@ -168,26 +179,3 @@ unfolding Swapped Demand3
 hand-overs-swapped values given format post done ss ss′ host contracts host′ contracts′ before h k later a other =
     same-results (cellsOf values) (format .world) before h k later (steps ss) (steps ss′) (demand-3 values given format post done ss host contracts)
     (demand-3 values given format post done ss′ host′ contracts′) (steps-typed (format .world) (steps ss) host) a other
-
--- ── The other order can be had ────────────────────────────────────────────────────────────────────────────────────────
-
-no-events : {x : Event} {xs : List Event} {X : Type 0} → Path (List Event) [] (x ∷ xs) → X
-no-events e = let z : _≡_ {A = ℕ} 0 1 = cc e in absurd (omega arith)
-
--- for every list of sessions with two such hand-overs there is one with the two in the other order, of a host that keeps to 01, that meets the contracts
-pub other-order : (values : List ℤ) (given : World) (format : Answered) → FormatPost values given format → format .answer .number ≡ 0
-    → (ss : List Session) → Host (format .world) true (steps ss) → (before : List Event) (h k : Single) (later : List Event)
-    → map eventOf (steps ss) ≡ before ++ oneThenOther h k later → Lawful (format .world) (before ++ oneThenOther k h later)
-other-order values given format post done ss host before h k later e = go ss before e (subst TypedEvents e (steps-typed (format .world) (steps ss) host))
-  where
-    go : (ss : List Session) (before : List Event) → map eventOf (steps ss) ≡ before ++ oneThenOther h k later → TypedEvents (before ++ oneThenOther h k later)
-        → Lawful (format .world) (before ++ oneThenOther k h later)
-    go [] [] e t = no-events e
-    go [] (x ∷ before) e t = no-events e
-    go (s ∷ ss) [] e t = let z : _≡_ {A = ℕ} 0 1 = cc (head-eq-of-cons-eq e) in absurd (omega arith)
-    go (s ∷ ss) (x ∷ before) e t =
-        let o = s .opening in
-        let rest = typed-parts before (oneThenOther h k later) (t .1) in
-        subst (λ (y : Event). Lawful (format .world) (y ∷ (before ++ oneThenOther k h later))) (head-eq-of-cons-eq e)
-        (every-list values given format post done (rightLengths (o .given)) (o .fuse) (before ++ oneThenOther k h later)
-        (typed-join before (oneThenOther k h later) (rest .0) (tt, (tt, rest .1 .1 .1))))

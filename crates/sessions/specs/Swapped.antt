@@ -7,28 +7,31 @@ use mathlib.Core.List.{List, [], _∷_, _++_, map}
 use lib.ListN.{length}
 use lib.IntN.{ℤ}
 use Rattle.book.specs.Limits.{cellLimit}
-use Rattle.book.specs.Book.{Answer}
 use Rattle.book.specs.Events.{Event}
 use Rattle.book.specs.Pages.{cellOf}
-use Rattle.book.specs.Swapped.{Single, oneThenOther}
+use Rattle.book.specs.Swapped.{Single, eventFor, oneThenOther}
 use Rattle.state.specs.World.{World}
 use Rattle.state.specs.Contracts.{Answered, FormatPost}
-use Rattle.sessions.specs.Host.{Opening, Session, Step, opened, steps, answerOf, writesOf, eventOf, worldAfterAll, Host, Contracts}
+use Rattle.sessions.specs.Host.{Opening, Called, Session, Step, opened, called, steps, answerOf, writesOf, eventOf, worldAfterAll, Host, Contracts}
 
--- 02: "two single hand-overs (kind 3) of different cells that follow one another and are both accepted": h and then k, after the openings and calls
--- `before`; after them come those of `later`
+-- two single hand-overs that follow one another, h and then k: the calls c and d, after the openings and calls `before`; after them come those of `later`
+pub record TwoHandOvers (before : List Event) (h k : Single) (later : List Event) (ss : List Step) : Type 0 where
+  pub xs : List Step
+  pub c : Called
+  pub d : Called
+  pub ys : List Step
+  pub are : ss ≡ xs ++ (called c ∷ called d ∷ ys)
+  pub sooner : map eventOf xs ≡ before
+  pub one : eventOf (called c) ≡ eventFor h
+  pub other : eventOf (called d) ≡ eventFor k
+  pub after : map eventOf ys ≡ later
+
+-- 02: "two single hand-overs (kind 3) of different cells that follow one another and are both accepted", that is, answered 0
 pub record Accepted (before : List Event) (h k : Single) (later : List Event) (ss : List Step) : Type 0 where
-  pub events : map eventOf ss ≡ before ++ oneThenOther h k later
+  pub two : TwoHandOvers before h k later ss
   pub apart : h .cell ≢ k .cell
-  -- the answers of the steps, those of the two hand-overs in their places
-  pub earlier : List Answer
-  pub one : Answer
-  pub two : Answer
-  pub rest : List Answer
-  pub answers : map answerOf ss ≡ earlier ++ (one ∷ two ∷ rest)
-  pub place : length earlier ≡ length before
-  pub first : one .number ≡ 0
-  pub second : two .number ≡ 0
+  pub first : two .c .result .answer .number ≡ 0
+  pub second : two .d .result .answer .number ≡ 0
 
 -- 02: "the swapped order is accepted too", and "every later list of calls and openings then gives the same results and cells". 02 leaves out a cut that
 -- keeps just one of the two rows; it is not left out here. `own` is what the store holds before the steps.
