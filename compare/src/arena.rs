@@ -34,6 +34,13 @@ pub struct Difference {
 
 pub type Outcome<T> = Result<T, Difference>;
 
+/// What a step gives: its answer, and the paper's copy after an opening that is ready.
+#[derive(Clone, PartialEq, Debug)]
+pub struct Given {
+    pub answer: Answer,
+    pub copy: Option<Vec<u8>>,
+}
+
 pub struct Arena<'a> {
     pub paper: Paper,
     others: Vec<Box<dyn Store>>,
@@ -48,6 +55,7 @@ pub struct Arena<'a> {
     lent: Lengths,
     moment: Moment,
     steps: Vec<Step>,
+    given: Vec<Given>,
     calls: u64,
     cover: &'a mut Cover,
 }
@@ -71,6 +79,7 @@ impl<'a> Arena<'a> {
             lent: RIGHT,
             moment: Moment::default(),
             steps: Vec::new(),
+            given: Vec::new(),
             calls: 0,
             cover,
         }
@@ -91,6 +100,11 @@ impl<'a> Arena<'a> {
 
     pub fn into_steps(self) -> Vec<Step> {
         self.steps
+    }
+
+    /// What each of the steps gave.
+    pub fn given(&self) -> &[Given] {
+        &self.given
     }
 
     pub fn cover(&mut self) -> &mut Cover {
@@ -132,6 +146,14 @@ impl<'a> Arena<'a> {
     /// Takes one step with all stores; gives the answer.
     pub fn step(&mut self, step: Step) -> Outcome<Answer> {
         self.steps.push(step.clone());
+        let opens = matches!(step, Step::Open(_));
+        let answer = self.take(step)?;
+        let copy = (opens && answer.number == 0).then(|| self.paper.copy.clone());
+        self.given.push(Given { answer, copy });
+        Ok(answer)
+    }
+
+    fn take(&mut self, step: Step) -> Outcome<Answer> {
         match step {
             Step::Format(cells) => self.format(&cells),
             Step::Open(fuse) => self.open(fuse),

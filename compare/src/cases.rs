@@ -105,7 +105,7 @@ pub const PARTS: [Part; 17] = [
     Part {
         name: "two orders",
         about: "two hand-overs of different cells in either order, and power failing around them",
-        seeds: [200, 2_000],
+        seeds: [160, 1_600],
         play: two_orders::play,
     },
     Part {

@@ -1,16 +1,18 @@
 //! Two single hand-overs of different cells in either order (02, L5). Sessions lead to two hand-overs that
-//! follow one another and are both accepted; the same steps are taken with the two in the other order. All
-//! answers must be the same, place by place, and after each ready opening the copy, wherever power fails: the
-//! fuses let both of their rows land, one of them, or none.
+//! follow one another and are both accepted while power holds; the same steps are taken with the two in the
+//! other order. All answers must be the same, place by place, and after each ready opening the copy. The
+//! fuses let both of their rows land, one of them, or none, and a full tail may be stored before the first
+//! row or between the two. Where power fails in that, both orders are refused alike.
 
-use super::sessions::{formatted, fuse, habits, next_call, Habits};
-use crate::arena::{Arena, Outcome};
+use super::sessions::{formatted, fuse, habits, next_call, session, work, Habits};
+use crate::arena::{Arena, Difference, Given, Outcome};
 use crate::bench::{Bench, Failure};
+use crate::cover::Cover;
 use crate::paper::Ledger;
 use crate::prng::Rng;
 use crate::report;
-use crate::steps::Step;
-use crate::store::{Answer, Call};
+use crate::steps::{begin, force, open, Step};
+use crate::store::{Call, TAIL_ROWS};
 
 /// A fuse that no case uses up.
 const LONG: u32 = 1_000_000;
@@ -19,93 +21,126 @@ const LONG: u32 = 1_000_000;
 struct Pair {
     one: Call,
     two: Call,
-    /// The step that opens their session.
-    opening: usize,
+    /// How many rows wait before the two.
+    waiting: usize,
     /// How many stored writes it takes until all rows before the two are stored.
     writes: u32,
 }
 
-/// What a step gives: its answer, and the copy after an opening that is ready.
-type Given = (Answer, Option<Vec<u8>>);
-
 pub fn play(bench: &mut Bench, seed: u64) -> Result<(), Failure> {
     let rng = &mut Rng::new(seed);
+    let habits = busy(rng);
+    let (pair, before) = bench.case(|arena| lead_to(rng, arena, &habits, filled(seed)))?;
+    let opening = before.iter().rposition(|step| matches!(step, Step::Open(_)));
+    let (Some(pair), Some(opening)) = (pair, opening) else { return Ok(()) };
+    for left in fuses(rng, &pair) {
+        let mut start = before.clone();
+        start[opening] = open(Some(left));
+        let first = start.len();
+        let (given, steps) = bench.case(|arena| {
+            arena.steps(&start)?;
+            arena.steps(&[Step::Call(pair.one), Step::Call(pair.two)])?;
+            later(rng, arena, &habits)?;
+            Ok(arena.given().to_vec())
+        })?;
+        note(&mut bench.cover, &pair, &steps[first..], &given[first..]);
+        in_other_order(bench, &steps, &given, first)?;
+    }
+    Ok(())
+}
+
+/// Takes steps that gave this once more, the one at `first` and the one after it swapped. They must give the
+/// same, place by place.
+pub fn in_other_order(
+    bench: &mut Bench,
+    steps: &[Step],
+    given: &[Given],
+    first: usize,
+) -> Result<(), Failure> {
+    let mut swapped = steps.to_vec();
+    swapped.swap(first, first + 1);
+    let (others, mut steps) = bench.case(|arena| {
+        arena.steps(&swapped)?;
+        Ok(arena.given().to_vec())
+    })?;
+    let Some((step, text)) = difference(given, &others) else { return Ok(()) };
+    steps.truncate(step);
+    let text = format!("with steps {} and {} swapped {text}", first + 1, first + 2);
+    Err(Failure { steps, difference: Difference { step, text } })
+}
+
+/// The first step to which the swapped order gives something else, and what.
+fn difference(given: &[Given], swapped: &[Given]) -> Option<(usize, String)> {
+    let mut places = (1..).zip(given.iter().zip(swapped));
+    let (step, (given, swapped)) = places.find(|(_, (given, swapped))| given != swapped)?;
+    let text = if given.answer == swapped.answer {
+        "the opening leaves another copy".into()
+    } else {
+        let (given, swapped) = (report::answer(given.answer), report::answer(swapped.answer));
+        format!("the answer is {swapped}, not {given}")
+    };
+    Some((step, text))
+}
+
+/// Visits that change and hand over cells, and seldom end, so that there are changes of two cells to hand
+/// over.
+fn busy(rng: &mut Rng) -> Habits {
     let mut habits = habits(rng);
-    // Visits that change and hand over cells, and seldom end, so that there are changes of two cells to hand over.
     habits.visits = habits.visits.max(3);
     if habits.cells.len() < 2 {
         habits.cells = vec![0, rng.pick(&[1, 7, 223])];
     }
     habits.weights[..6].copy_from_slice(&[8, 20, 8, 1, 1, 1]);
-    let (pair, before) = bench.case(|arena| lead_to(rng, arena, &habits))?;
-    let Some(pair) = pair else { return Ok(()) };
-    // The session of the two without a cut; then with fuses that are used up around their rows.
-    let fuses = [LONG, pair.writes, pair.writes + 1, pair.writes + 2, pair.writes + 3];
-    for left in fuses {
-        let mut start = before.clone();
-        start[pair.opening] = Step::Open(Some(left));
-        let (given, steps) = bench.case(|arena| {
-            let mut given = Vec::new();
-            arena.steps(&start)?;
-            let one = take(arena, Step::Call(pair.one), &mut given)?;
-            let two = take(arena, Step::Call(pair.two), &mut given)?;
-            // A full tail that is stored before one of the two rows may use up the fuse.
-            let accepted = one.number == 0 && two.number == 0;
-            if accepted {
-                later(rng, arena, &habits, &mut given)?;
-            }
-            Ok(accepted.then_some(given))
-        })?;
-        let Some(mut given) = given else { continue };
-        let mut other = steps;
-        other.swap(start.len(), start.len() + 1);
-        given.reverse();
-        bench.case(|arena| {
-            arena.steps(&other[..start.len()])?;
-            for step in &other[start.len()..] {
-                let expected = given.pop();
-                let mut found = Vec::new();
-                take(arena, step.clone(), &mut found)?;
-                let (answer, copy) = &found[0];
-                let Some((first, its_copy)) = expected else {
-                    return arena.differs("the other order has more steps");
-                };
-                if *answer != first {
-                    let (answer, first) = (report::answer(*answer), report::answer(first));
-                    return arena.differs(format!("one order answers {first}, the other {answer}"));
-                }
-                if *copy != its_copy {
-                    return arena.differs("the two orders leave different copies");
-                }
-            }
-            Ok(())
-        })?;
+    habits
+}
+
+/// How many rows wait before the two, if that does not go by chance: with one less than a full tail the
+/// second stores the row of the first, with a full one the first stores the rows before it.
+fn filled(seed: u64) -> Option<usize> {
+    match seed % 8 {
+        1 | 3 | 5 => Some(TAIL_ROWS - 1),
+        7 => Some(TAIL_ROWS),
+        _ => None,
     }
-    Ok(())
 }
 
 /// Sessions up to two hand-overs that would both be accepted; none where there are no such two.
-fn lead_to(rng: &mut Rng, arena: &mut Arena, habits: &Habits) -> Outcome<Option<Pair>> {
+fn lead_to(
+    rng: &mut Rng,
+    arena: &mut Arena,
+    habits: &Habits,
+    filled: Option<usize>,
+) -> Outcome<Option<Pair>> {
     arena.step(Step::Format(formatted(rng)))?;
-    let mut opening = 1;
     if rng.chance(1, 2) {
-        arena.step(Step::Open(None))?;
-        for _ in 0..rng.below(40) {
-            let call = next_call(rng, habits, arena.ledger());
-            arena.step(Step::Call(call))?;
-            opening += 1;
-        }
-        opening += 1;
+        let (fuse, calls) = (fuse(rng), rng.below(40));
+        session(rng, arena, habits, fuse, calls)?;
     }
-    arena.step(Step::Open(Some(LONG)))?;
-    for _ in 0..rng.pick(&[10, 30, 90]) {
-        let call = next_call(rng, habits, arena.ledger());
-        arena.step(Step::Call(call))?;
+    arena.step(open(Some(LONG)))?;
+    let calls = rng.pick(&[10, 30, 90]);
+    work(rng, arena, habits, calls)?;
+    if let Some(rows) = filled {
+        fill(rng, arena, habits, rows)?;
     }
     let Some((one, two)) = pair(rng, arena.ledger()) else { return Ok(None) };
-    let waiting = arena.paper.tail.len() as u32;
-    let writes = LONG - arena.paper.fuse.unwrap_or(LONG) + waiting;
-    Ok(Some(Pair { one, two, opening, writes }))
+    let waiting = arena.paper.tail.len();
+    let writes = LONG - arena.paper.fuse.unwrap_or(LONG) + waiting as u32;
+    Ok(Some(Pair { one, two, waiting, writes }))
+}
+
+/// Changes and hand-overs until so many rows wait.
+fn fill(rng: &mut Rng, arena: &mut Arena, habits: &Habits, rows: usize) -> Outcome<()> {
+    while arena.ledger().active.len() < 3 {
+        arena.step(begin())?;
+    }
+    // Each of these calls adds one row or none, so that no number of waiting rows is passed over.
+    let weights = [0, 20, 8, 1, 0, 0, 0, 0, 0];
+    let habits = Habits { weights, cells: habits.cells.clone(), ..*habits };
+    while arena.paper.tail.len() != rows {
+        let call = next_call(rng, &habits, arena.ledger());
+        arena.step(Step::Call(call))?;
+    }
+    Ok(())
 }
 
 /// Two hand-overs of different cells, each of a change that its giver holds. The receiver of one may be the
@@ -131,44 +166,60 @@ fn pair(rng: &mut Rng, ledger: &Ledger) -> Option<(Call, Call)> {
     Some((one, two))
 }
 
-/// Takes a step, and notes what it gives.
-fn take(arena: &mut Arena, step: Step, given: &mut Vec<Given>) -> Outcome<Answer> {
-    let opens = matches!(step, Step::Open(_));
-    let answer = arena.step(step)?;
-    let copy = (opens && answer.number == 0).then(|| arena.paper.copy.clone());
-    given.push((answer, copy));
-    Ok(answer)
+/// The session of the two without a cut, with fuses that are used up around their rows, and with one that
+/// is used up where one of the two stores a full tail.
+fn fuses(rng: &mut Rng, pair: &Pair) -> Vec<u32> {
+    let mut fuses = vec![LONG, pair.writes, pair.writes + 1, pair.writes + 2, pair.writes + 3];
+    if pair.waiting + 1 >= TAIL_ROWS {
+        fuses.push(pair.writes - 1 - rng.below(pair.waiting) as u32);
+    }
+    fuses
 }
 
-/// What comes after the two: a force at once, an opening at once, or calls first; then openings that are cut
-/// themselves, and calls between them.
-fn later(rng: &mut Rng, arena: &mut Arena, habits: &Habits, given: &mut Vec<Given>) -> Outcome<()> {
-    let rows = arena.paper.stored_rows() + arena.paper.tail.len();
+/// What comes after the two: a force at once, an opening at once, or calls first; then sessions that are cut
+/// themselves, with arbitrary RAM and wrong lengths.
+fn later(rng: &mut Rng, arena: &mut Arena, habits: &Habits) -> Outcome<()> {
     match rng.below(3) {
-        0 => {
-            take(arena, Step::Call(Call::Force), given)?;
-        }
+        0 => arena.steps(&[force()])?,
         1 => {}
-        _ => calls(rng, arena, habits, given)?,
+        _ => {
+            let calls = rng.below(30);
+            work(rng, arena, habits, calls)?;
+        }
     }
-    // How many rows stand behind those before the two: both, one or none of them is found.
-    let stored = arena.paper.stored_rows();
-    let cover = arena.cover();
-    cover.shape_if(stored >= rows, "two orders, both rows found by an opening");
-    cover.shape_if(stored + 1 == rows, "two orders, just one of the rows found by an opening");
-    cover.shape_if(stored + 2 <= rows, "two orders, none of the rows found by an opening");
     for _ in 0..1 + rng.below(3) {
-        take(arena, Step::Open(fuse(rng)), given)?;
-        calls(rng, arena, habits, given)?;
+        let (fuse, calls) = (fuse(rng), rng.below(30));
+        session(rng, arena, habits, fuse, calls)?;
     }
-    take(arena, Step::Open(None), given)?;
-    Ok(())
+    arena.steps(&[open(None)])
 }
 
-fn calls(rng: &mut Rng, arena: &mut Arena, habits: &Habits, given: &mut Vec<Given>) -> Outcome<()> {
-    for _ in 0..rng.below(30) {
-        let call = next_call(rng, habits, arena.ledger());
-        take(arena, Step::Call(call), given)?;
+/// What became of the two, whose answers come first.
+fn note(cover: &mut Cover, pair: &Pair, steps: &[Step], given: &[Given]) {
+    let (one, two) = (given[0].answer, given[1].answer);
+    let accepted = one.number == 0 && two.number == 0;
+    // What one of the two stores is a full tail.
+    cover.shape_if(accepted && one.writes.rows > 0, "two orders, a full tail stored before the two");
+    cover.shape_if(accepted && two.writes.rows > 0, "two orders, a full tail stored between the two");
+    cover.shape_if(one.number == 5, "two orders, the first refused in storing a full tail");
+    let second = one.number == 0 && two.number == 5;
+    cover.shape_if(second, "two orders, the second refused in storing a full tail");
+    if accepted {
+        note_found(cover, pair, steps, given);
     }
-    Ok(())
+}
+
+/// How many rows of the two the next opening finds, and whether power failed before it.
+fn note_found(cover: &mut Cover, pair: &Pair, steps: &[Step], given: &[Given]) {
+    let opens = |at: &usize| matches!(steps[*at], Step::Open(_)) && given[*at].answer.number != 1;
+    let opening = (0..steps.len()).find(opens).unwrap_or(steps.len());
+    let answers = || given[..opening].iter().map(|given| given.answer);
+    // The rows that waited before the two were stored first.
+    let stored: usize = answers().map(|answer| usize::from(answer.writes.rows)).sum();
+    let found = stored.saturating_sub(pair.waiting);
+    let power_held = answers().all(|answer| answer.number != 5);
+    cover.shape_if(found >= 2, "two orders, both rows found by an opening");
+    cover.shape_if(found == 1, "two orders, just one of the rows found by an opening");
+    cover.shape_if(found == 1 && power_held, "two orders, just one row found without a power failure");
+    cover.shape_if(found == 0, "two orders, none of the rows found by an opening");
 }

@@ -46,7 +46,7 @@ pub const PLAYED: Table = Table {
         ("full tails", &[("cases", 590), ("calls", 52_000)]),
         ("crowded", &[("cases", 24), ("calls", 3_900)]),
         ("pages alone", &[("cases", 200), ("calls", 19_000)]),
-        ("two orders", &[("cases", 570), ("calls", 55_000)]),
+        ("two orders", &[("cases", 590), ("calls", 75_000)]),
         ("all visits", &[("cases", 2), ("calls", 4_400)]),
         ("all scopes", &[("cases", 24), ("calls", 12_000)]),
         ("full rows", &[("cases", 38), ("calls", 86)]),
