@@ -36,7 +36,7 @@ pub type Outcome<T> = Result<T, Difference>;
 
 /// What a step gives: its answer, and the paper's copy after an opening that is ready.
 #[derive(Clone, PartialEq, Debug)]
-pub struct Given {
+pub struct StepResult {
     pub answer: Answer,
     pub copy: Option<Vec<u8>>,
 }
@@ -55,7 +55,7 @@ pub struct Arena<'a> {
     lent: Lengths,
     moment: Moment,
     steps: Vec<Step>,
-    given: Vec<Given>,
+    results: Vec<StepResult>,
     calls: u64,
     cover: &'a mut Cover,
 }
@@ -79,7 +79,7 @@ impl<'a> Arena<'a> {
             lent: RIGHT,
             moment: Moment::default(),
             steps: Vec::new(),
-            given: Vec::new(),
+            results: Vec::new(),
             calls: 0,
             cover,
         }
@@ -103,8 +103,8 @@ impl<'a> Arena<'a> {
     }
 
     /// What each of the steps gave.
-    pub fn given(&self) -> &[Given] {
-        &self.given
+    pub fn results(&self) -> &[StepResult] {
+        &self.results
     }
 
     pub fn cover(&mut self) -> &mut Cover {
@@ -149,7 +149,7 @@ impl<'a> Arena<'a> {
         let opens = matches!(step, Step::Open(_));
         let answer = self.take(step)?;
         let copy = (opens && answer.number == 0).then(|| self.paper.copy.clone());
-        self.given.push(Given { answer, copy });
+        self.results.push(StepResult { answer, copy });
         Ok(answer)
     }
 

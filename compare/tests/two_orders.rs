@@ -2,7 +2,7 @@
 //! a copy. All stores agree with the paper in either order, so that no wrong store is needed.
 
 use compare::adapters::FastStore;
-use compare::arena::{Given, Maker};
+use compare::arena::{Maker, StepResult};
 use compare::bench::{Bench, Failure};
 use compare::cases::two_orders::in_other_order;
 use compare::proved::ProvedStore;
@@ -25,22 +25,22 @@ impl Case {
         [&[format], self.before.as_slice(), &self.two, &self.after].concat()
     }
 
-    /// What each step gives. All answers are 0, those of the two as well.
-    fn given(&self, bench: &mut Bench) -> Vec<Given> {
+    /// The result of each step. All answers are 0, those of the two as well.
+    fn results(&self, bench: &mut Bench) -> Vec<StepResult> {
         let played = bench.case(|arena| {
             arena.steps(&self.steps())?;
-            Ok(arena.given().to_vec())
+            Ok(arena.results().to_vec())
         });
-        let Ok((given, _)) = played else { panic!("the stores differ") };
-        assert!(given.iter().all(|given| given.answer.number == 0), "{given:?}");
-        given
+        let Ok((results, _)) = played else { panic!("the stores differ") };
+        assert!(results.iter().all(|result| result.answer.number == 0), "{results:?}");
+        results
     }
 
     /// The values of the answers to the steps after the two.
     fn values(&self) -> Vec<i64> {
-        let given = self.given(&mut Bench::new(MAKERS.to_vec()));
-        let after = &given[given.len() - self.after.len()..];
-        after.iter().map(|given| given.answer.value).collect()
+        let results = self.results(&mut Bench::new(MAKERS.to_vec()));
+        let after = &results[results.len() - self.after.len()..];
+        after.iter().map(|result| result.answer.value).collect()
     }
 
     fn swapped(&self) -> Case {
@@ -51,8 +51,8 @@ impl Case {
     /// Compares the two orders.
     fn compared(&self) -> Result<(), Failure> {
         let bench = &mut Bench::new(MAKERS.to_vec());
-        let given = self.given(bench);
-        in_other_order(bench, &self.steps(), &given, 1 + self.before.len())
+        let results = self.results(bench);
+        in_other_order(bench, &self.steps(), &results, 1 + self.before.len())
     }
 
     /// The two orders differ at the step of this number, the format's being 1, with this text.
@@ -64,7 +64,7 @@ impl Case {
     }
 }
 
-/// Three visits begin; visit 1 adds 70 g to cell 0, visit 2 adds 5 g to this cell and hands it to visit 3,
+/// Three visits begin; visit 1 adds 70 g to cell 0, visit 2 adds 5 g to `cell` and hands it to visit 3,
 /// after or before visit 1 hands cell 0 to visit 2.
 fn two_hand_overs(cell: u8) -> Case {
     Case {

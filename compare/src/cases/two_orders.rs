@@ -5,7 +5,7 @@
 //! row or between the two. Where power fails in that, both orders are refused alike.
 
 use super::sessions::{formatted, fuse, habits, next_call, session, work, Habits};
-use crate::arena::{Arena, Difference, Given, Outcome};
+use crate::arena::{Arena, Difference, Outcome, StepResult};
 use crate::bench::{Bench, Failure};
 use crate::cover::Cover;
 use crate::paper::Ledger;
@@ -37,14 +37,14 @@ pub fn play(bench: &mut Bench, seed: u64) -> Result<(), Failure> {
         let mut start = before.clone();
         start[opening] = open(Some(left));
         let first = start.len();
-        let (given, steps) = bench.case(|arena| {
+        let (results, steps) = bench.case(|arena| {
             arena.steps(&start)?;
             arena.steps(&[Step::Call(pair.one), Step::Call(pair.two)])?;
             later(rng, arena, &habits)?;
-            Ok(arena.given().to_vec())
+            Ok(arena.results().to_vec())
         })?;
-        note(&mut bench.cover, &pair, &steps[first..], &given[first..]);
-        in_other_order(bench, &steps, &given, first)?;
+        note(&mut bench.cover, &pair, &steps[first..], &results[first..]);
+        in_other_order(bench, &steps, &results, first)?;
     }
     Ok(())
 }
@@ -54,30 +54,30 @@ pub fn play(bench: &mut Bench, seed: u64) -> Result<(), Failure> {
 pub fn in_other_order(
     bench: &mut Bench,
     steps: &[Step],
-    given: &[Given],
+    results: &[StepResult],
     first: usize,
 ) -> Result<(), Failure> {
     let mut swapped = steps.to_vec();
     swapped.swap(first, first + 1);
     let (others, mut steps) = bench.case(|arena| {
         arena.steps(&swapped)?;
-        Ok(arena.given().to_vec())
+        Ok(arena.results().to_vec())
     })?;
-    let Some((step, text)) = difference(given, &others) else { return Ok(()) };
+    let Some((step, text)) = difference(results, &others) else { return Ok(()) };
     steps.truncate(step);
     let text = format!("with steps {} and {} swapped {text}", first + 1, first + 2);
     Err(Failure { steps, difference: Difference { step, text } })
 }
 
-/// The first step to which the swapped order gives something else, and what.
-fn difference(given: &[Given], swapped: &[Given]) -> Option<(usize, String)> {
-    let mut places = (1..).zip(given.iter().zip(swapped));
-    let (step, (given, swapped)) = places.find(|(_, (given, swapped))| given != swapped)?;
-    let text = if given.answer == swapped.answer {
+/// The first step whose result is another in the swapped order, and what differs.
+fn difference(results: &[StepResult], swapped: &[StepResult]) -> Option<(usize, String)> {
+    let mut places = (1..).zip(results.iter().zip(swapped));
+    let (step, (result, other)) = places.find(|(_, (result, other))| result != other)?;
+    let text = if result.answer == other.answer {
         "the opening leaves another copy".into()
     } else {
-        let (given, swapped) = (report::answer(given.answer), report::answer(swapped.answer));
-        format!("the answer is {swapped}, not {given}")
+        let (result, other) = (report::answer(result.answer), report::answer(other.answer));
+        format!("the answer is {other}, not {result}")
     };
     Some((step, text))
 }
@@ -195,8 +195,8 @@ fn later(rng: &mut Rng, arena: &mut Arena, habits: &Habits) -> Outcome<()> {
 }
 
 /// What became of the two, whose answers come first.
-fn note(cover: &mut Cover, pair: &Pair, steps: &[Step], given: &[Given]) {
-    let (one, two) = (given[0].answer, given[1].answer);
+fn note(cover: &mut Cover, pair: &Pair, steps: &[Step], results: &[StepResult]) {
+    let (one, two) = (results[0].answer, results[1].answer);
     let accepted = one.number == 0 && two.number == 0;
     // What one of the two stores is a full tail.
     cover.shape_if(accepted && one.writes.rows > 0, "two orders, a full tail stored before the two");
@@ -205,15 +205,15 @@ fn note(cover: &mut Cover, pair: &Pair, steps: &[Step], given: &[Given]) {
     let second = one.number == 0 && two.number == 5;
     cover.shape_if(second, "two orders, the second refused in storing a full tail");
     if accepted {
-        note_found(cover, pair, steps, given);
+        note_found(cover, pair, steps, results);
     }
 }
 
 /// How many rows of the two the next opening finds, and whether power failed before it.
-fn note_found(cover: &mut Cover, pair: &Pair, steps: &[Step], given: &[Given]) {
-    let opens = |at: &usize| matches!(steps[*at], Step::Open(_)) && given[*at].answer.number != 1;
+fn note_found(cover: &mut Cover, pair: &Pair, steps: &[Step], results: &[StepResult]) {
+    let opens = |at: &usize| matches!(steps[*at], Step::Open(_)) && results[*at].answer.number != 1;
     let opening = (0..steps.len()).find(opens).unwrap_or(steps.len());
-    let answers = || given[..opening].iter().map(|given| given.answer);
+    let answers = || results[..opening].iter().map(|result| result.answer);
     // The rows that waited before the two were stored first.
     let stored: usize = answers().map(|answer| usize::from(answer.writes.rows)).sum();
     let found = stored.saturating_sub(pair.waiting);

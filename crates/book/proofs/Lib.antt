@@ -35,8 +35,8 @@ pub mod Reopened
 pub mod Pairs
 pub mod SameOpen
 pub mod SameInUse
-pub mod TwinBooks
-pub mod TwinEvents
+pub mod MatchingBooks
+pub mod MatchingEvents
 pub mod SwapRows
 pub mod Swapped
 -- bytes

@@ -25,8 +25,8 @@ use Rattle.book.proofs.Openings.{ended-open, ready}
 use Rattle.book.proofs.SwapRows.{rowOf, NeedsOf, unrefused, needs-first, needs-second, after-both, one-of-two, both-rows}
 use Rattle.book.proofs.SameOpen.{rows-refl}
 use Rattle.book.proofs.SameInUse.{SameInUse, same-in-use-refl}
-use Rattle.book.proofs.TwinBooks.{Twins, twin-length, twin-stored, stored-cells, twin-adds}
-use Rattle.book.proofs.TwinEvents.{Alongside, same-opening, SameList, same-list}
+use Rattle.book.proofs.MatchingBooks.{Matching, matching-length, matching-stored, stored-cells, matching-adds}
+use Rattle.book.proofs.MatchingEvents.{Alongside, same-opening, SameList, same-list}
 
 -- ── A call that is done ───────────────────────────────────────────────────────────────────────────────────────────────
 
@@ -84,23 +84,23 @@ module _ (cells : ℕ → ℤ) (b : Book) (s : Sound b) (h k : Single) (ne : h .
   need-two : NeedsOf (after (ledgerOf b) (rowOf h)) k
   need-two = subst (λ (l : Ledger). NeedsOf l k) (ledger-one h (one .power)) (needs b₁ (k .giver) (k .receiver) (k .cell) (two .unrefused))
 
-  itself : Twins b b
+  itself : Matching b b
   itself = record { fuse = refl; isOpen = refl; stored = rows-refl (b .stored) empty; waiting = rows-refl (b .waiting) (ledger (b .stored)) }
 
-  twins-one : Twins b₁ b₁′
+  matching-one : Matching b₁ b₁′
   unfolding through adds
-  twins-one = twin-adds b b (s .shut) (s .shut) itself (one-of-two (ledgerOf b) h k ne need-one need-two)
+  matching-one = matching-adds b b (s .shut) (s .shut) itself (one-of-two (ledgerOf b) h k ne need-one need-two)
 
-  twins-both : Twins b₂ b₂′
+  matching-both : Matching b₂ b₂′
   unfolding through adds
-  twins-both = twin-adds b b (s .shut) (s .shut) itself (both-rows (ledgerOf b) h k ne need-one need-two)
+  matching-both = matching-adds b b (s .shut) (s .shut) itself (both-rows (ledgerOf b) h k ne need-one need-two)
 
   -- the swapped order is accepted
   first-taken : Takes b (callFor k)
   first-taken = record {
     isOpen = one .isOpen;
     unrefused = unrefused b k (needs-first (ledgerOf b) h k ne need-one need-two);
-    power = twins-one .isOpen ∙ one .power;
+    power = matching-one .isOpen ∙ one .power;
   }
 
   second-taken : Takes b₁′ (callFor h)
@@ -108,7 +108,7 @@ module _ (cells : ℕ → ℤ) (b : Book) (s : Sound b) (h k : Single) (ne : h .
     isOpen = first-taken .power;
     unrefused = unrefused b₁′ h
         (subst (λ (l : Ledger). NeedsOf l h) (sym (ledger-one k (first-taken .power))) (needs-second (ledgerOf b) h k ne need-one need-two));
-    power = twins-both .isOpen ∙ two .power;
+    power = matching-both .isOpen ∙ two .power;
   }
 
   -- the books after both
@@ -121,7 +121,7 @@ module _ (cells : ℕ → ℤ) (b : Book) (s : Sound b) (h k : Single) (ne : h .
       ap (λ (l : Ledger). after l (rowOf j)) (ledger-one i (t .power))
 
   alongside : Alongside b₂ b₂′
-  alongside = record { twins = twins-both; inUse = λ q. subst (SameInUse (ledgerOf b₂)) same (same-in-use-refl (ledgerOf b₂)) }
+  alongside = record { matching = matching-both; inUse = λ q. subst (SameInUse (ledgerOf b₂)) same (same-in-use-refl (ledgerOf b₂)) }
     where
       same : ledgerOf b₂ ≡ ledgerOf b₂′
       same = ledger-two h k one (two .power) ∙ sym (after-both (ledgerOf b) h k ne need-one need-two) ∙ sym (ledger-two k h first-taken (second-taken .power))
@@ -144,13 +144,13 @@ module _ (cells : ℕ → ℤ) (b : Book) (s : Sound b) (h k : Single) (ne : h .
 
   second-value : value cells b₁′ (callFor h) ≡ value cells b₁ (callFor k)
   unfolding value adds
-  second-value = rw (twin-length b₁ b₁′ twins-one)
+  second-value = rw (matching-length b₁ b₁′ matching-one)
 
   first-counts : callWrites b (callFor k) (doneBy cells b (callFor k)) ≡ callWrites b (callFor h) (doneBy cells b (callFor h))
-  first-counts = rw (twin-stored b₁ b₁′ twins-one)
+  first-counts = rw (matching-stored b₁ b₁′ matching-one)
 
   second-counts : callWrites b₁′ (callFor h) (doneBy cells b₁′ (callFor h)) ≡ callWrites b₁ (callFor k) (doneBy cells b₁ (callFor k))
-  second-counts = rw (twin-stored b₁ b₁′ twins-one, twin-stored b₂ b₂′ twins-both)
+  second-counts = rw (matching-stored b₁ b₁′ matching-one, matching-stored b₂ b₂′ matching-both)
 
 -- what two hand-overs that are done come to
 module _ (cells : ℕ → ℤ) (b : Book) (h k : Single) (one : Takes b (callFor h)) (two : Takes (through b (callFor h)) (callFor k)) where
@@ -182,8 +182,8 @@ module _ (cells : ℕ → ℤ) (b : Book) (h k : Single) (one : Takes b (callFor
 same-sums : (cells : ℕ → ℤ) (b b′ : Book) → Sound b → Sound b′ → Alongside b b′ → (f : Fuse) → opening b true f .answer .number ≡ 0 → (c : ℕ)
     → keptSum cells (opening b′ true f .book .stored) c ≡ keptSum cells (opening b true f .book .stored) c
 same-sums cells b b′ s s′ a f e c =
-    let same = same-opening b b′ s s′ (a .twins) a true f in
-    sym (ready b′ f s′ (ap (λ (x : Answer). x .number) (same .answer) ∙ e) .sums cells c) ∙ stored-cells cells _ _ (same .book .twins) c ∙
+    let same = same-opening b b′ s s′ (a .matching) a true f in
+    sym (ready b′ f s′ (ap (λ (x : Answer). x .number) (same .answer) ∙ e) .sums cells c) ∙ stored-cells cells _ _ (same .book .matching) c ∙
     ready b f s e .sums cells c
 
 pub either-order : (cells : ℕ → ℤ) (b : Book) (h k : Single) (es : List Event) → Sound b → TypedEvents es → BothAccepted cells b h k

@@ -1,5 +1,5 @@
--- Two hand-overs that follow one another, in either order (document 02, L5), with later calls, cuts and openings: of different cells they give the same,
--- wherever the power fails; of one cell they do not. By computing.
+-- Two hand-overs that follow one another, in either order (document 02, L5), with later calls and openings, and the power failing before, between and behind
+-- their rows: of different cells they give the same, of one cell they do not. By computing.
 use Prim.Native.Nat.{ℕ, suc}
 use native.Mathlib.Omega.{arith}
 use mathlib.Core.Path.{_≡_, refl}
@@ -20,18 +20,19 @@ use Rattle.book.specs.Swapped.{Single, oneThenOther, BothAccepted}
 use Rattle.book.proofs.WorkedExamples.{computes}
 
 -- 1 hands its change of cell 0 to 3, and 2 its change of cell 7 to 1
-abbrev pub first : Single
-first = record { giver = 1; receiver = 3; cell = 0 }
+abbrev pub ofCell0 : Single
+ofCell0 = record { giver = 1; receiver = 3; cell = 0 }
 
-abbrev pub second : Single
-second = record { giver = 2; receiver = 1; cell = 7 }
+abbrev pub ofCell7 : Single
+ofCell7 = record { giver = 2; receiver = 1; cell = 7 }
 
 -- what comes before them: three visits, 1 adds 70 to cell 0, 2 takes 80 from cell 7
 abbrev pub threeVisits : Fuse → List Event
 threeVisits f = opens true f ∷ map (calls true) (Call.begin ∷ Call.begin ∷ Call.begin ∷ Call.change 1 0 (pos 70) ∷ Call.change 2 7 (negsuc 79) ∷ [])
 
--- both are accepted in this order, with each fuse that lets the begin rows land; that they are in the other follows (Swapped), and is seen in the answers below
-pub accepted-in-order : (cells : ℕ → ℤ) (n : ℕ) → BothAccepted cells (bookAfter cells formatted (threeVisits (left (suc (suc (suc n)))))) first second
+-- both are accepted in this order with every fuse of three writes, those of the begin rows, or more; with none see `power-holds`. That they are in the other
+-- order follows (Swapped), and is seen in the answers below.
+pub accepted-in-order : (cells : ℕ → ℤ) (n : ℕ) → BothAccepted cells (bookAfter cells formatted (threeVisits (left (suc (suc (suc n)))))) ofCell0 ofCell7
 unfolding computes
 accepted-in-order cells n = record { apart = λ e. omega arith; first = refl; second = refl }
 
@@ -42,7 +43,7 @@ soFar = done (pos 0) ∷ done (pos 1) ∷ done (pos 2) ∷ done (pos 3) ∷ done
 -- what the two and the events `es` are answered in both orders
 abbrev InBoth : Fuse → List Event → List Answer → Type 0
 InBoth f es given =
-    Gives zeros (threeVisits f ++ oneThenOther first second es) (soFar ++ given) × Gives zeros (threeVisits f ++ oneThenOther second first es) (soFar ++ given)
+    Gives zeros (threeVisits f ++ oneThenOther ofCell0 ofCell7 es) (soFar ++ given) × Gives zeros (threeVisits f ++ oneThenOther ofCell7 ofCell0 es) (soFar ++ given)
 
 -- ── Both rows are kept ────────────────────────────────────────────────────────────────────────────────────────────────
 
@@ -59,19 +60,19 @@ pub power-holds : InBoth none later
 unfolding computes
 power-holds = (refl, refl)
 
--- the first commit stores the seven rows that wait, in either order
+-- the first commit stores seven rows, its own the last, in either order
 abbrev counted : List Writes
 counted = rows 0 ∷ rows 1 ∷ rows 1 ∷ rows 1 ∷ replicate 5 (rows 0) ++ (rows 7 ∷ rows 1 ∷ replicate 5 (rows 0))
   where
     rows : ℕ → Writes
     rows n = record { rows = n; pages = 0 }
 
-pub power-holds-counts : (writes zeros formatted (threeVisits none ++ oneThenOther first second later) ≡ counted) ×
-    (writes zeros formatted (threeVisits none ++ oneThenOther second first later) ≡ counted)
+pub power-holds-counts : (writes zeros formatted (threeVisits none ++ oneThenOther ofCell0 ofCell7 later) ≡ counted) ×
+    (writes zeros formatted (threeVisits none ++ oneThenOther ofCell7 ofCell0 later) ≡ counted)
 unfolding computes
 power-holds-counts = (refl, refl)
 
--- seven writes land, the two rows last; the commit is cut behind them
+-- seven writes land, the two rows as the last; the commit is cut behind them
 pub both-kept : InBoth (left 7) later
     (done (pos 6) ∷ done (pos 7) ∷ done (pos 9) ∷ refusedBy 5 ∷ refusedBy 5 ∷ refusedBy 5 ∷ refusedBy 5 ∷
     done (pos 5) ∷ done (pos 0) ∷ done (pos 0) ∷ [])
@@ -86,7 +87,7 @@ forced =
     map (calls true) (Call.force ∷ Call.read 0 ∷ []) ++
     (opens true none ∷ map (calls true) (Call.read 0 ∷ Call.read 7 ∷ Call.begin ∷ Call.change 4 0 (pos 5) ∷ Call.commit 4 ∷ Call.read 0 ∷ []))
 
--- six writes land, the first of the two rows last
+-- six writes land, the row of the hand-over that came first as the last
 pub one-kept : InBoth (left 6) forced
     (done (pos 6) ∷ done (pos 7) ∷ refusedBy 5 ∷ refusedBy 5 ∷
     done (pos 5) ∷ done (pos 0) ∷ done (pos 0) ∷ done (pos 4) ∷ done (pos 13) ∷ done (pos 14) ∷ done (pos 5) ∷ [])
@@ -100,40 +101,41 @@ rowsBefore = Row.begin 1 ∷ Row.begin 2 ∷ Row.begin 3 ∷ Row.change 1 0 (pos
 abbrev rowsAfter : List Row
 rowsAfter = Row.abort 3 ∷ Row.abort 2 ∷ Row.abort 1 ∷ Row.begin 4 ∷ Row.change 4 0 (pos 5) ∷ Row.commit 4 ∷ []
 
-pub log-of-first : bookAfter zeros formatted (threeVisits (left 6) ++ oneThenOther first second forced) .stored ≡
+pub log-of-cell-0-first : bookAfter zeros formatted (threeVisits (left 6) ++ oneThenOther ofCell0 ofCell7 forced) .stored ≡
     rowsBefore ++ (Row.handOver 1 3 0 ∷ Row.undo 2 7 5 (negsuc 79) ∷ Row.undo 3 0 4 (pos 70) ∷ rowsAfter)
 unfolding computes
-log-of-first = refl
+log-of-cell-0-first = refl
 
-pub log-of-second : bookAfter zeros formatted (threeVisits (left 6) ++ oneThenOther second first forced) .stored ≡
+pub log-of-cell-7-first : bookAfter zeros formatted (threeVisits (left 6) ++ oneThenOther ofCell7 ofCell0 forced) .stored ≡
     rowsBefore ++ (Row.handOver 2 1 7 ∷ Row.undo 1 7 5 (negsuc 79) ∷ Row.undo 1 0 4 (pos 70) ∷ rowsAfter)
 unfolding computes
-log-of-second = refl
+log-of-cell-7-first = refl
 
--- 63 rows wait before the two, so that the second of them stores a full tail, the first with it, and waits alone
+-- 63 rows wait before the two, so that the one that comes second stores a full tail, the other with it, and waits alone
 abbrev manyBefore : List Event
 manyBefore = threeVisits none ++ replicate 61 (calls true (Call.change 1 0 (pos 1)))
 
-pub second-waits : (bookAfter zeros formatted (manyBefore ++ oneThenOther first second []) .waiting ≡ Row.handOver 2 1 7 ∷ []) ×
-    (bookAfter zeros formatted (manyBefore ++ oneThenOther second first []) .waiting ≡ Row.handOver 1 3 0 ∷ [])
+pub later-one-waits : (bookAfter zeros formatted (manyBefore ++ oneThenOther ofCell0 ofCell7 []) .waiting ≡ Row.handOver 2 1 7 ∷ []) ×
+    (bookAfter zeros formatted (manyBefore ++ oneThenOther ofCell7 ofCell0 []) .waiting ≡ Row.handOver 1 3 0 ∷ [])
 unfolding computes
-second-waits = (refl, refl)
+later-one-waits = (refl, refl)
 
--- no power fails, and the opening finds just one of them
-abbrev reopened : List Event
-reopened = opens true none ∷ map (calls true) (Call.read 0 ∷ Call.read 7 ∷ [])
+-- an opening at once, and both cells read
+abbrev openedAtOnce : List Event
+openedAtOnce = opens true none ∷ map (calls true) (Call.read 0 ∷ Call.read 7 ∷ [])
 
-abbrev given66 : List Answer
-given66 = done (pos 67) ∷ done (pos 68) ∷ done (pos 66) ∷ done (pos 0) ∷ done (pos 0) ∷ []
+-- no power fails, and the opening finds just one of them: 63 changes are undone, and three visits aborted
+abbrev oneKeptAnswers : List Answer
+oneKeptAnswers = done (pos 67) ∷ done (pos 68) ∷ done (pos 66) ∷ done (pos 0) ∷ done (pos 0) ∷ []
 
-pub one-kept-by-opening : (answers zeros (bookAfter zeros formatted manyBefore) (oneThenOther first second reopened) ≡ given66) ×
-    (answers zeros (bookAfter zeros formatted manyBefore) (oneThenOther second first reopened) ≡ given66)
+pub one-kept-by-opening : (answers zeros (bookAfter zeros formatted manyBefore) (oneThenOther ofCell0 ofCell7 openedAtOnce) ≡ oneKeptAnswers) ×
+    (answers zeros (bookAfter zeros formatted manyBefore) (oneThenOther ofCell7 ofCell0 openedAtOnce) ≡ oneKeptAnswers)
 unfolding computes
 one-kept-by-opening = (refl, refl)
 
 -- ── Neither is kept ───────────────────────────────────────────────────────────────────────────────────────────────────
 
--- five writes land, the second change last
+-- five writes land, the second change as the last
 pub none-kept : InBoth (left 5) forced
     (done (pos 6) ∷ done (pos 7) ∷ refusedBy 5 ∷ refusedBy 5 ∷
     done (pos 5) ∷ done (pos 0) ∷ done (pos 0) ∷ done (pos 4) ∷ done (pos 12) ∷ done (pos 13) ∷ done (pos 5) ∷ [])
@@ -141,7 +143,7 @@ unfolding computes
 none-kept = (refl, refl)
 
 -- an opening at once: the two rows, which wait, are lost with the changes
-pub none-kept-by-opening : InBoth none reopened (done (pos 6) ∷ done (pos 7) ∷ done (pos 3) ∷ done (pos 0) ∷ done (pos 0) ∷ [])
+pub none-kept-by-opening : InBoth none openedAtOnce (done (pos 6) ∷ done (pos 7) ∷ done (pos 3) ∷ done (pos 0) ∷ done (pos 0) ∷ [])
 unfolding computes
 none-kept-by-opening = (refl, refl)
 

@@ -102,7 +102,7 @@ pub events-of-two : (before : List Event) (h k : Single) (later : List Event) (s
     → map eventOf ss ≡ before ++ oneThenOther h k later
 events-of-two before h k later ss w =
     ap (map eventOf) (w .are) ∙ map-append eventOf (w .xs) (called (w .c) ∷ called (w .d) ∷ w .ys) ∙
-    ap₂ _++_ (w .sooner) (ap₂ _∷_ (w .one) (ap₂ _∷_ (w .other) (w .after)))
+    ap₂ _++_ (w .eventsBefore) (ap₂ _∷_ (w .one) (ap₂ _∷_ (w .other) (w .eventsLater)))
 
 -- and the steps of such events
 pub two-hand-overs : (before : List Event) (h k : Single) (later : List Event) (ss : List Step) → map eventOf ss ≡ before ++ oneThenOther h k later
@@ -117,10 +117,10 @@ two-hand-overs [] h k later (called c ∷ called d ∷ ss) e = record {
   d = d;
   ys = ss;
   are = refl;
-  sooner = refl;
+  eventsBefore = refl;
   one = head-eq-of-cons-eq e;
   other = head-eq-of-cons-eq (tail-eq-of-cons-eq e);
-  after = tail-eq-of-cons-eq (tail-eq-of-cons-eq e);
+  eventsLater = tail-eq-of-cons-eq (tail-eq-of-cons-eq e);
 }
 two-hand-overs (x ∷ before) h k later [] e = no-events e
 two-hand-overs (x ∷ before) h k later (s ∷ ss) e =
@@ -131,10 +131,10 @@ two-hand-overs (x ∷ before) h k later (s ∷ ss) e =
       d = r .d;
       ys = r .ys;
       are = ap (λ (l : List Step). s ∷ l) (r .are);
-      sooner = ap₂ _∷_ (head-eq-of-cons-eq e) (r .sooner);
+      eventsBefore = ap₂ _∷_ (head-eq-of-cons-eq e) (r .eventsBefore);
       one = r .one;
       other = r .other;
-      after = r .after;
+      eventsLater = r .eventsLater;
     }
 
 pub typed-parts : (xs ys : List Event) → TypedEvents (xs ++ ys) → TypedEvents xs × TypedEvents ys

@@ -63,7 +63,7 @@ module _ (cells : ℕ → ℤ) (before : List Event) (h k : Single) (later : Lis
       (w .d .result .answer .number ≡ happens cells (happens cells bookBefore (eventFor h) .book) (eventFor k) .answer .number)
   numbers-of-two =
       let r = answers-of-two cells (w .xs) (w .ys) (called (w .c)) (called (w .d)) formatted (rw (w .are) at by-book) in
-      let one = ap₂ (happens cells) (ap (bookAfter cells formatted) (w .sooner)) (w .one) in
+      let one = ap₂ (happens cells) (ap (bookAfter cells formatted) (w .eventsBefore)) (w .one) in
       let two = ap₂ (happens cells) (ap (λ (o : Outcome). o .book) one) (w .other) in
       (ap (λ (x : Answer). x .number) (r .0 ∙ ap (λ (o : Outcome). o .answer) one), ap (λ (x : Answer). x .number) (r .1 ∙ ap (λ (o : Outcome). o .answer) two))
 

@@ -1,4 +1,4 @@
--- 02, L5 leaves nothing empty: where the book accepts two hand-overs, sessions with them occur in both orders.
+-- 02, L5 is not empty: where the book accepts two hand-overs, sessions with them occur in both orders.
 use Prim.Native.Nat.{ℕ}
 use native.Mathlib.Omega.{arith}
 use mathlib.Core.Bool.{Bool, true}
@@ -10,7 +10,7 @@ use Rattle.book.specs.Events.{Event, opens, bookAfter}
 use Rattle.book.specs.Swapped.{Single, BothAccepted, oneThenOther}
 use Rattle.book.proofs.Sound.{TypedEvents, sound-formatted, sound-events}
 use Rattle.book.proofs.Swapped.{either-order}
-use Rattle.book.proofs.TwoOrders.{first, second, threeVisits, forced, accepted-in-order}
+use Rattle.book.proofs.TwoOrders.{ofCell0, ofCell7, threeVisits, forced, accepted-in-order}
 use Rattle.state.specs.World.{World, rightLengths}
 use Rattle.state.specs.Contracts.{Answered, FormatPost, cellsOf}
 use Rattle.sessions.specs.Host.{Session, steps, eventOf, Host}
@@ -37,7 +37,7 @@ module _ (values : List ℤ) (given : World) (format : Answered) (post : FormatP
       let by-book = demand-3 values given format post done (l .sessions) (l .host) (l .contracts) .answers in
       record { lawful = l; accepted = accepted-by-book (cellsOf values) (opens lengths f ∷ before) h k later (steps (l .sessions)) w by-book p }
 
-  -- where the book accepts both, whatever comes before and later, there are sessions with the one order and sessions with the other
+  -- where the book accepts both, whatever comes before, an opening first, and later, there are sessions with the one order and sessions with the other
   pub both-orders-occur : (lengths : Bool) (f : Fuse) (before : List Event) (h k : Single) (later : List Event) → TypedEvents before → TypedEvents later
       → BothAccepted (cellsOf values) (bookAfter (cellsOf values) formatted (opens lengths f ∷ before)) h k
       → Occurs (format .world) (opens lengths f ∷ before) h k later × Occurs (format .world) (opens lengths f ∷ before) k h later
@@ -47,12 +47,12 @@ module _ (values : List ℤ) (given : World) (format : Answered) (post : FormatP
       (occurs lengths f before h k later t u p, occurs lengths f before k h later t u q)
 
   -- the worked example: visits, changes, the two hand-overs, a force that is cut behind the first of their rows, an opening and more calls
-  pub example-occurs : Occurs (format .world) (threeVisits (left 6)) first second forced × Occurs (format .world) (threeVisits (left 6)) second first forced
+  pub example-occurs : Occurs (format .world) (threeVisits (left 6)) ofCell0 ofCell7 forced × Occurs (format .world) (threeVisits (left 6)) ofCell7 ofCell0 forced
   example-occurs =
-      both-orders-occur true (left 6) _ first second forced (tt, (tt, (tt, (tt, (tt, tt))))) (tt, (tt, (tt, (tt, (tt, (tt, (tt, (tt, (tt, tt)))))))))
+      both-orders-occur true (left 6) _ ofCell0 ofCell7 forced (tt, (tt, (tt, (tt, (tt, tt))))) (tt, (tt, (tt, (tt, (tt, (tt, (tt, (tt, (tt, tt)))))))))
       (accepted-in-order (cellsOf values) 3)
 
-  -- for every list of sessions with two hand-overs that follow one another there is one with the two in the other order
+  -- for every list of sessions with two hand-overs that follow one another there is one with the same openings and calls but for the order of the two
   pub other-order-exists : (ss : List Session) → Host (format .world) true (steps ss) → (before : List Event) (h k : Single) (later : List Event)
       → map eventOf (steps ss) ≡ before ++ oneThenOther h k later → Lawful (format .world) (before ++ oneThenOther k h later)
   other-order-exists ss host before h k later e = go ss before e (subst TypedEvents e (steps-typed (format .world) (steps ss) host))

@@ -1,4 +1,4 @@
--- Document 02, L5, "Hand-overs in another order", of 01's sessions: two lists of sessions that differ only in the order of two single hand-overs.
+-- Document 02, L5, "Hand-overs in another order", of 01's sessions: two lists of sessions whose openings and calls differ only in the order of two single hand-overs.
 use Prim.Native.Nat.{ℕ, _<_}
 use mathlib.Core.Bool.{true}
 use mathlib.Core.Path.{_≡_}
@@ -21,10 +21,10 @@ pub record TwoHandOvers (before : List Event) (h k : Single) (later : List Event
   pub d : Called
   pub ys : List Step
   pub are : ss ≡ xs ++ (called c ∷ called d ∷ ys)
-  pub sooner : map eventOf xs ≡ before
+  pub eventsBefore : map eventOf xs ≡ before
   pub one : eventOf (called c) ≡ eventFor h
   pub other : eventOf (called d) ≡ eventFor k
-  pub after : map eventOf ys ≡ later
+  pub eventsLater : map eventOf ys ≡ later
 
 -- 02: "two single hand-overs (kind 3) of different cells that follow one another and are both accepted", that is, answered 0
 pub record Accepted (before : List Event) (h k : Single) (later : List Event) (ss : List Step) : Type 0 where

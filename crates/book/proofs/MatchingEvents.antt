@@ -1,4 +1,4 @@
--- Two books side by side between calls (`Alongside`): twins, and while they are open the calls find the same in both. Every call and every opening answers and
+-- Two books side by side between calls (`Alongside`): they match, and while they are open the calls find the same in both. Every call and every opening answers and
 -- counts the same for both, and leaves two such books.
 use Prim.Native.Nat.{ℕ, zero, suc}
 use mathlib.Core.Bool.{Bool, true, false, cond, not}
@@ -29,10 +29,10 @@ use Rattle.book.proofs.Force.{reopened-empty}
 use Rattle.book.proofs.Pairs.{pairs-imp}
 use Rattle.book.proofs.SameOpen.{OpenAlike, SameOpen, open-pairs, SameRows, end, last-open, rows-join, taken-back-alike}
 use Rattle.book.proofs.SameInUse.{HolderOver, SameOrOver, SameInUse, same-take-back, same-room, same-scope-fits, same-held, same-rows}
-use Rattle.book.proofs.TwinBooks.{same-length, Twins, twin-length, twin-stored, twin-cells, twin-open, twin-force, twin-finish, twin-adds}
+use Rattle.book.proofs.MatchingBooks.{same-length, Matching, matching-length, matching-stored, matching-cells, matching-open, matching-force, matching-finish, matching-adds}
 
 pub record Alongside (b b′ : Book) : Type 0 where
-  pub twins : Twins b b′
+  pub matching : Matching b b′
   pub inUse : b .isOpen ≡ true → SameInUse (ledgerOf b) (ledgerOf b′)
 
 -- ── A call ────────────────────────────────────────────────────────────────────────────────────────────────────────────
@@ -76,14 +76,14 @@ module _ (b b′ : Book) (s : SameInUse (ledgerOf b) (ledgerOf b′)) where
   same-adds (Call.handOverAll g r) = refl
 
   -- what it returns
-  same-value : (cells : ℕ → ℤ) (k : Call) → Twins b b′ → value cells b′ k ≡ value cells b k
+  same-value : (cells : ℕ → ℤ) (k : Call) → Matching b b′ → value cells b′ k ≡ value cells b k
   unfolding value
   same-value cells k t = go (returns k)
     where
       go : (x : Return) → valueOf cells b′ k x ≡ valueOf cells b k x
       go theVisit = rw (s .begun)
-      go theRow = rw (twin-length b b′ t, same-adds k)
-      go (theCell c) = twin-cells cells b b′ t c
+      go theRow = rw (matching-length b b′ t, same-adds k)
+      go (theCell c) = matching-cells cells b b′ t c
       go zeroValue = refl
 
 -- what two outcomes have in common
@@ -94,7 +94,7 @@ pub record Same (o o′ : Outcome) : Type 0 where
 -- both end by the power
 same-ended : (v v′ : ℤ) (b b′ : Book) → v′ ≡ v → Alongside b b′ → Same (ended v b) (ended v′ b′)
 same-ended v v′ b b′ e a =
-    subst (λ (o : Bool). Same (ended v b) (cond o (record { answer = answer 0 v′; book = b′ }) (refused 5 b′))) (sym (a .twins .isOpen)) (go (b .isOpen))
+    subst (λ (o : Bool). Same (ended v b) (cond o (record { answer = answer 0 v′; book = b′ }) (refused 5 b′))) (sym (a .matching .isOpen)) (go (b .isOpen))
   where
     go : (o : Bool)
         → Same (cond o (record { answer = answer 0 v; book = b }) (refused 5 b)) (cond o (record { answer = answer 0 v′; book = b′ }) (refused 5 b′))
@@ -103,7 +103,7 @@ same-ended v v′ b b′ e a =
 
 module _ (b b′ : Book) (s : Sound b) (s′ : Sound b′) (a : Alongside b b′) where
   same-through : (k : Call) → Typed k → b .isOpen ≡ true → refusal b k ≡ 0 → Alongside (through b k) (through b′ k)
-  same-through k t o e = record { twins = both; inUse = after-it }
+  same-through k t o e = record { matching = both; inUse = after-it }
     where
       use′ : SameInUse (ledgerOf b) (ledgerOf b′)
       use′ = a .inUse o
@@ -111,8 +111,8 @@ module _ (b b′ : Book) (s : Sound b) (s′ : Sound b′) (a : Alongside b b′
       rows : SameRows (ledgerOf b) (ledgerOf b′) (adds b k) (adds b k) × SameInUse (foldl after (ledgerOf b) (adds b k)) (foldl after (ledgerOf b′) (adds b k))
       rows = same-rows (adds b k) (ledgerOf b) (ledgerOf b′) use′ (fine-adds b k (sound-inv b s) (s .whole o) t e .good)
 
-      both : Twins (through b k) (through b′ k)
-      both = unfold through in rw (same-adds b b′ use′ k) (twin-finish (ending k) _ _ (twin-adds b b′ (s .shut) (s′ .shut) (a .twins) (rows .0)))
+      both : Matching (through b k) (through b′ k)
+      both = unfold through in rw (same-adds b b′ use′ k) (matching-finish (ending k) _ _ (matching-adds b b′ (s .shut) (s′ .shut) (a .matching) (rows .0)))
 
       after-it : through b k .isOpen ≡ true → SameInUse (ledgerOf (through b k)) (ledgerOf (through b′ k))
       after-it q =
@@ -123,11 +123,11 @@ module _ (b b′ : Book) (s : Sound b) (s′ : Sound b′) (a : Alongside b b′
   same-call : (cells : ℕ → ℤ) (lengths : Bool) (k : Call) → Typed k → Same (call cells b lengths k) (call cells b′ lengths k)
   unfolding call accepted
   same-call cells false k t = record { answer = refl; book = a }
-  same-call cells true k t = subst (λ (o : Bool). Same (call cells b true k) (decide cells b′ k ((5, not o) else refusal b′ k))) (sym (a .twins .isOpen))
+  same-call cells true k t = subst (λ (o : Bool). Same (call cells b true k) (decide cells b′ k ((5, not o) else refusal b′ k))) (sym (a .matching .isOpen))
       (go (b .isOpen) refl)
     where
       by : (n : ℕ) → b .isOpen ≡ true → refusal b k ≡ n → Same (decide cells b k n) (decide cells b′ k n)
-      by zero o e = same-ended _ _ (through b k) (through b′ k) (same-value b b′ (a .inUse o) cells k (a .twins)) (same-through k t o e)
+      by zero o e = same-ended _ _ (through b k) (through b′ k) (same-value b b′ (a .inUse o) cells k (a .matching)) (same-through k t o e)
       by (suc n) o e = record { answer = refl; book = a }
 
       go : (o : Bool) → b .isOpen ≡ o → Same (decide cells b k ((5, not o) else refusal b k)) (decide cells b′ k ((5, not o) else refusal b′ k))
@@ -157,7 +157,7 @@ closed-in-use rs rs′ al al′ none s =
         → SameOrOver (ledger rs) x y
     over x y m n o = inr (is-over rs al refl x m, is-over rs′ al′ (s .begun) y n)
 
-module _ (b b′ : Book) (s : Sound b) (s′ : Sound b′) (t : Twins b b′) where
+module _ (b b′ : Book) (s : Sound b) (s′ : Sound b′) (t : Matching b b′) where
   abbrev old : List Row
   old = b .stored
 
@@ -166,7 +166,7 @@ module _ (b b′ : Book) (s : Sound b) (s′ : Sound b′) (t : Twins b b′) wh
 
   same-closing : SameRows (ledger old) (ledger old′) (closing (ledger old)) (closing (ledger old′))
   same-closing =
-      let o = twin-open b b′ t in
+      let o = matching-open b b′ t in
       let good = take-back everyone (ledger old) (inv-log old (stored-allowed b s)) .good in
       let good′ = take-back everyone (ledger old′) (inv-log old′ (stored-allowed b′ s′)) .good in
       rw (closing-is (ledger old), closing-is (ledger old′), o .active)
@@ -174,13 +174,13 @@ module _ (b b′ : Book) (s : Sound b) (s′ : Sound b′) (t : Twins b b′) wh
       (rw (closing-is (ledger old)) at good) (rw (closing-is (ledger old′), o .active) at good′))
 
   same-reopened : (f : Fuse) → Alongside (reopened f old) (reopened f old′)
-  same-reopened f = record { twins = both; inUse = after-it }
+  same-reopened f = record { matching = both; inUse = after-it }
     where
-      start : Twins (starting f old) (starting f old′)
+      start : Matching (starting f old) (starting f old′)
       start = record { fuse = refl; isOpen = refl; stored = t .stored; waiting = end (last-open (t .stored)) }
 
-      both : Twins (reopened f old) (reopened f old′)
-      both = unfold reopened in twin-force _ _ (twin-adds {rs = closing (ledger old)} {rs′ = closing (ledger old′)} (starting f old) (starting f old′)
+      both : Matching (reopened f old) (reopened f old′)
+      both = unfold reopened in matching-force _ _ (matching-adds {rs = closing (ledger old)} {rs′ = closing (ledger old′)} (starting f old) (starting f old′)
           (λ o. clash true refl o) (λ o. clash true refl o) start (rw (append-nil old, append-nil old′) same-closing))
 
       after-it : reopened f old .isOpen ≡ true → SameInUse (ledgerOf (reopened f old)) (ledgerOf (reopened f old′))
@@ -201,13 +201,13 @@ module _ (b b′ : Book) (s : Sound b) (s′ : Sound b′) (t : Twins b b′) wh
 
 module _ (cells : ℕ → ℤ) where
   same-event : (b b′ : Book) → Sound b → Sound b′ → Alongside b b′ → (e : Event) → TypedEvent e → Same (happens cells b e) (happens cells b′ e)
-  same-event b b′ s s′ a (opens lengths f) t = same-opening b b′ s s′ (a .twins) a lengths f
+  same-event b b′ s s′ a (opens lengths f) t = same-opening b b′ s s′ (a .matching) a lengths f
   same-event b b′ s s′ a (calls lengths k) t = same-call b b′ s s′ a cells lengths k t
 
   -- what it counts
   same-writes : (b b′ : Book) → Alongside b b′ → (e : Event) → Same (happens cells b e) (happens cells b′ e) → eventWrites cells b′ e ≡ eventWrites cells b e
-  same-writes b b′ a (opens lengths f) r = rw (twin-stored _ _ (r .book .twins), twin-stored b b′ (a .twins))
-  same-writes b b′ a (calls lengths k) r = rw (twin-stored _ _ (r .book .twins), twin-stored b b′ (a .twins), r .answer)
+  same-writes b b′ a (opens lengths f) r = rw (matching-stored _ _ (r .book .matching), matching-stored b b′ (a .matching))
+  same-writes b b′ a (calls lengths k) r = rw (matching-stored _ _ (r .book .matching), matching-stored b b′ (a .matching), r .answer)
 
   -- of a list
   pub record SameList (b b′ : Book) (es : List Event) : Type 0 where

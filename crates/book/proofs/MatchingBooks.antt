@@ -1,4 +1,4 @@
--- Two books side by side (`Twins`): the same fuse, both open or both closed, and as many rows stored and waiting, which row by row move the same cells and
+-- Two books side by side (`Matching`): the same fuse, both open or both closed, and as many rows stored and waiting, which row by row move the same cells and
 -- leave the same open changes. Stored writes and added rows keep them so.
 use Prim.Native.Nat.{ℕ, zero, suc}
 use mathlib.Core.Bool.{Bool, true, false, cond}
@@ -36,74 +36,74 @@ same-last p (next s e t) = rw (same-last p t, ap (touches p) (sym e))
 
 -- ── Two books ─────────────────────────────────────────────────────────────────────────────────────────────────────────
 
-pub record Twins (b b′ : Book) : Type 0 where
+pub record Matching (b b′ : Book) : Type 0 where
   pub fuse : b′ .fuse ≡ b .fuse
   pub isOpen : b′ .isOpen ≡ b .isOpen
   pub stored : SameRows empty empty (b .stored) (b′ .stored)
   pub waiting : SameRows (ledger (b .stored)) (ledger (b′ .stored)) (b .waiting) (b′ .waiting)
 
 -- all rows
-twin-rows : (b b′ : Book) → Twins b b′ → SameRows empty empty (rowsOf b) (rowsOf b′)
-twin-rows b b′ t = rows-join (t .stored) (t .waiting)
+matching-rows : (b b′ : Book) → Matching b b′ → SameRows empty empty (rowsOf b) (rowsOf b′)
+matching-rows b b′ t = rows-join (t .stored) (t .waiting)
 
-pub twin-length : (b b′ : Book) → Twins b b′ → length (rowsOf b′) ≡ length (rowsOf b)
-twin-length b b′ t = same-length (twin-rows b b′ t)
+pub matching-length : (b b′ : Book) → Matching b b′ → length (rowsOf b′) ≡ length (rowsOf b)
+matching-length b b′ t = same-length (matching-rows b b′ t)
 
-pub twin-stored : (b b′ : Book) → Twins b b′ → length (b′ .stored) ≡ length (b .stored)
-twin-stored b b′ t = same-length (t .stored)
+pub matching-stored : (b b′ : Book) → Matching b b′ → length (b′ .stored) ≡ length (b .stored)
+matching-stored b b′ t = same-length (t .stored)
 
 -- the cells, from whatever values the rows start
-pub twin-cells : (cells : ℕ → ℤ) (b b′ : Book) → Twins b b′ → (c : ℕ) → applied cells (rowsOf b′) c ≡ applied cells (rowsOf b) c
-twin-cells cells b b′ t c = ap (λ (z : ℤ). cells c +ℤ z) (same-moved c (twin-rows b b′ t))
+pub matching-cells : (cells : ℕ → ℤ) (b b′ : Book) → Matching b b′ → (c : ℕ) → applied cells (rowsOf b′) c ≡ applied cells (rowsOf b) c
+matching-cells cells b b′ t c = ap (λ (z : ℤ). cells c +ℤ z) (same-moved c (matching-rows b b′ t))
 
-pub stored-cells : (cells : ℕ → ℤ) (b b′ : Book) → Twins b b′ → (c : ℕ) → applied cells (b′ .stored) c ≡ applied cells (b .stored) c
+pub stored-cells : (cells : ℕ → ℤ) (b b′ : Book) → Matching b b′ → (c : ℕ) → applied cells (b′ .stored) c ≡ applied cells (b .stored) c
 stored-cells cells b b′ t c = ap (λ (z : ℤ). cells c +ℤ z) (same-moved c (t .stored))
 
 -- what an opening finds
-pub twin-open : (b b′ : Book) → Twins b b′ → SameOpen (ledger (b .stored)) (ledger (b′ .stored))
-twin-open b b′ t = last-open (t .stored)
+pub matching-open : (b b′ : Book) → Matching b b′ → SameOpen (ledger (b .stored)) (ledger (b′ .stored))
+matching-open b b′ t = last-open (t .stored)
 
 -- ── Stored writes ─────────────────────────────────────────────────────────────────────────────────────────────────────
 
 module _ (s s′ st st′ wa wa′ : List Row) (old : SameRows empty empty s s′) (new : SameRows empty empty st st′)
     (more : SameRows (ledger st) (ledger st′) wa wa′) where
-  twin-land : (f : Fuse) → Twins (land f s st wa) (land f s′ st′ wa′)
-  twin-land none = record { fuse = refl; isOpen = refl; stored = new; waiting = more }
-  twin-land (left zero) = record { fuse = refl; isOpen = refl; stored = old; waiting = end (last-open old) }
-  twin-land (left (suc n)) = record { fuse = refl; isOpen = refl; stored = new; waiting = more }
+  matching-land : (f : Fuse) → Matching (land f s st wa) (land f s′ st′ wa′)
+  matching-land none = record { fuse = refl; isOpen = refl; stored = new; waiting = more }
+  matching-land (left zero) = record { fuse = refl; isOpen = refl; stored = old; waiting = end (last-open old) }
+  matching-land (left (suc n)) = record { fuse = refl; isOpen = refl; stored = new; waiting = more }
 
-twin-store : (b b′ : Book) → Twins b b′ → Twins (storeRow b) (storeRow b′)
-twin-store b b′ t = go (t .waiting)
+matching-store : (b b′ : Book) → Matching b b′ → Matching (storeRow b) (storeRow b′)
+matching-store b b′ t = go (t .waiting)
   where
-    go : {w w′ : List Row} → SameRows (ledger (b .stored)) (ledger (b′ .stored)) w w′ → Twins (storeFirst b w) (storeFirst b′ w′)
+    go : {w w′ : List Row} → SameRows (ledger (b .stored)) (ledger (b′ .stored)) w w′ → Matching (storeFirst b w) (storeFirst b′ w′)
     go (end s) = t
-    go (next {r = r} {r′ = r′} {rs = rs} {rs′ = rs′} s q more) = rw (t .fuse) (twin-land (b .stored) (b′ .stored) _ _ rs rs′ (t .stored)
+    go (next {r = r} {r′ = r′} {rs = rs} {rs′ = rs′} s q more) = rw (t .fuse) (matching-land (b .stored) (b′ .stored) _ _ rs rs′ (t .stored)
         (rows-join (t .stored) (next s q (end (first-open more))))
         (rw (ledger-append (b .stored) (r ∷ []), ledger-append (b′ .stored) (r′ ∷ [])) more) (b .fuse))
 
-twin-times : (n : ℕ) (b b′ : Book) → Twins b b′ → Twins (times n storeRow b) (times n storeRow b′)
-twin-times zero b b′ t = t
-twin-times (suc n) b b′ t = twin-times n (storeRow b) (storeRow b′) (twin-store b b′ t)
+matching-times : (n : ℕ) (b b′ : Book) → Matching b b′ → Matching (times n storeRow b) (times n storeRow b′)
+matching-times zero b b′ t = t
+matching-times (suc n) b b′ t = matching-times n (storeRow b) (storeRow b′) (matching-store b b′ t)
 
-pub twin-force : (b b′ : Book) → Twins b b′ → Twins (force b) (force b′)
+pub matching-force : (b b′ : Book) → Matching b b′ → Matching (force b) (force b′)
 unfolding force
-twin-force b b′ t = rw (same-length (t .waiting)) (twin-times (length (b .waiting)) b b′ t)
+matching-force b b′ t = rw (same-length (t .waiting)) (matching-times (length (b .waiting)) b b′ t)
 
-twin-page : (b b′ : Book) → Twins b b′ → Twins (storePage b) (storePage b′)
-twin-page b b′ t = subst (λ (o : Bool). Twins (storePage b) (paged o b′)) (sym (t .isOpen)) (go (b .isOpen))
+matching-page : (b b′ : Book) → Matching b b′ → Matching (storePage b) (storePage b′)
+matching-page b b′ t = subst (λ (o : Bool). Matching (storePage b) (paged o b′)) (sym (t .isOpen)) (go (b .isOpen))
   where
     paged : Bool → Book → Book
     paged o x = cond o (land (x .fuse) (x .stored) (x .stored) (x .waiting)) x
 
-    go : (o : Bool) → Twins (paged o b) (paged o b′)
+    go : (o : Bool) → Matching (paged o b) (paged o b′)
     go true = rw (t .fuse)
-        (twin-land (b .stored) (b′ .stored) (b .stored) (b′ .stored) (b .waiting) (b′ .waiting) (t .stored) (t .stored) (t .waiting) (b .fuse))
+        (matching-land (b .stored) (b′ .stored) (b .stored) (b′ .stored) (b .waiting) (b′ .waiting) (t .stored) (t .stored) (t .waiting) (b .fuse))
     go false = t
 
-pub twin-finish : (e : Ending) (b b′ : Book) → Twins b b′ → Twins (finish e b) (finish e b′)
-twin-finish waits b b′ t = t
-twin-finish forces b b′ t = twin-force b b′ t
-twin-finish (flushes p) b b′ t = rw (same-last p (t .waiting)) (twin-page _ _ (twin-times (lastOn p (b .waiting)) b b′ t))
+pub matching-finish : (e : Ending) (b b′ : Book) → Matching b b′ → Matching (finish e b) (finish e b′)
+matching-finish waits b b′ t = t
+matching-finish forces b b′ t = matching-force b b′ t
+matching-finish (flushes p) b b′ t = rw (same-last p (t .waiting)) (matching-page _ _ (matching-times (lastOn p (b .waiting)) b b′ t))
 
 -- ── Adding rows ───────────────────────────────────────────────────────────────────────────────────────────────────────
 
@@ -111,9 +111,9 @@ twin-finish (flushes p) b b′ t = rw (same-last p (t .waiting)) (twin-page _ _ 
 abbrev MayAdd : Book → Book → List Row → List Row → Type 0
 MayAdd b b′ rs rs′ = b .isOpen ≡ true → SameRows (ledgerOf b) (ledgerOf b′) rs rs′
 
--- after one step the books are twins, and the rest of the rows may be added
+-- after one step the books match, and the rest of the rows may be added
 record Added (b b′ : Book) (rs rs′ : List Row) : Type 0 where
-  twins : Twins b b′
+  matching : Matching b b′
   may : MayAdd b b′ rs rs′
 
 -- the first of the rows, and the rest
@@ -125,9 +125,9 @@ ledger-more : (b : Book) (r : Row) → ledger (b .stored ++ (b .waiting ++ (r �
 ledger-more b r = ap ledger (sym (append-assoc (b .stored) (b .waiting) (r ∷ []))) ∙ ledger-append (rowsOf b) (r ∷ [])
 
 module _ (r r′ : Row) (rs rs′ : List Row) where
-  twin-append : (b b′ : Book) → Added b b′ (r ∷ rs) (r′ ∷ rs′) → Added (append b r) (append b′ r′) rs rs′
-  twin-append b b′ a =
-      subst (λ (o : Bool). Added (append b r) (cond o (bookOf (b′ .stored) (b′ .waiting ++ (r′ ∷ [])) (b′ .fuse) true) b′) rs rs′) (sym (a .twins .isOpen))
+  matching-append : (b b′ : Book) → Added b b′ (r ∷ rs) (r′ ∷ rs′) → Added (append b r) (append b′ r′) rs rs′
+  matching-append b b′ a =
+      subst (λ (o : Bool). Added (append b r) (cond o (bookOf (b′ .stored) (b′ .waiting ++ (r′ ∷ [])) (b′ .fuse) true) b′) rs rs′) (sym (a .matching .isOpen))
       (go (b .isOpen) refl)
     where
       go : (o : Bool) → b .isOpen ≡ o → Added (cond o (bookOf (b .stored) (b .waiting ++ (r ∷ [])) (b .fuse) true) b)
@@ -136,43 +136,43 @@ module _ (r r′ : Row) (rs rs′ : List Row) where
           let k = one-row (a .may o) in
           let one = rw (ledger-append (b .stored) (b .waiting), ledger-append (b′ .stored) (b′ .waiting)) at (k .0) in
           record {
-            twins = record { fuse = a .twins .fuse; isOpen = refl; stored = a .twins .stored; waiting = rows-join (a .twins .waiting) one };
+            matching = record { fuse = a .matching .fuse; isOpen = refl; stored = a .matching .stored; waiting = rows-join (a .matching .waiting) one };
             may = λ q. rw (ledger-more b r, ledger-more b′ r′) (k .1);
           }
-      go false o = record { twins = a .twins; may = λ q. clash _ q o }
+      go false o = record { matching = a .matching; may = λ q. clash _ q o }
 
 -- a force adds no row
 may-forced : (b b′ : Book) (rs rs′ : List Row) → Shut b → Shut b′ → Added b b′ rs rs′ → Added (force b) (force b′) rs rs′
-may-forced b b′ rs rs′ h h′ a = record { twins = twins; may = may }
+may-forced b b′ rs rs′ h h′ a = record { matching = matching; may = may }
   where
-    twins : Twins (force b) (force b′)
-    twins = twin-force b b′ (a .twins)
+    matching : Matching (force b) (force b′)
+    matching = matching-force b b′ (a .matching)
 
     may : MayAdd (force b) (force b′) rs rs′
     may o =
         let p = extends-force b h in
         let p′ = extends-force b′ h′ in
-        rw (p .rows o ∙ append-nil (rowsOf b), p′ .rows (twins .isOpen ∙ o) ∙ append-nil (rowsOf b′)) (a .may (was (b .isOpen) refl))
+        rw (p .rows o ∙ append-nil (rowsOf b), p′ .rows (matching .isOpen ∙ o) ∙ append-nil (rowsOf b′)) (a .may (was (b .isOpen) refl))
       where
         was : (t : Bool) → b .isOpen ≡ t → b .isOpen ≡ true
         was true e = e
         was false e = clash _ o (ap (λ (x : Book). x .isOpen) (extends-force b h .stuck e) ∙ e)
 
-twin-add : (r r′ : Row) (rs rs′ : List Row) (b b′ : Book) → Shut b → Shut b′ → Added b b′ (r ∷ rs) (r′ ∷ rs′) → Added (add b r) (add b′ r′) rs rs′
+matching-add : (r r′ : Row) (rs rs′ : List Row) (b b′ : Book) → Shut b → Shut b′ → Added b b′ (r ∷ rs) (r′ ∷ rs′) → Added (add b r) (add b′ r′) rs rs′
 unfolding add
-twin-add r r′ rs rs′ b b′ h h′ a =
-    rw (same-length (a .twins .waiting)) (twin-append r r′ rs rs′ _ _ (go (leb tailLimit (length (b .waiting)))))
+matching-add r r′ rs rs′ b b′ h h′ a =
+    rw (same-length (a .matching .waiting)) (matching-append r r′ rs rs′ _ _ (go (leb tailLimit (length (b .waiting)))))
   where
     go : (t : Bool) → Added (cond t (force b) b) (cond t (force b′) b′) (r ∷ rs) (r′ ∷ rs′)
     go true = may-forced b b′ (r ∷ rs) (r′ ∷ rs′) h h′ a
     go false = a
 
-twin-all : {l l′ : Ledger} {rs rs′ : List Row} → SameRows l l′ rs rs′ → (b b′ : Book) → Shut b → Shut b′ → Added b b′ rs rs′
-    → Twins (addAll b rs) (addAll b′ rs′)
-twin-all (end s) b b′ h h′ a = a .twins
-twin-all (next {r = r} {r′ = r′} {rs = rs} {rs′ = rs′} s e t) b b′ h h′ a =
-    twin-all t (add b r) (add b′ r′) (extends-add b r h .shut) (extends-add b′ r′ h′ .shut) (twin-add r r′ rs rs′ b b′ h h′ a)
+matching-all : {l l′ : Ledger} {rs rs′ : List Row} → SameRows l l′ rs rs′ → (b b′ : Book) → Shut b → Shut b′ → Added b b′ rs rs′
+    → Matching (addAll b rs) (addAll b′ rs′)
+matching-all (end s) b b′ h h′ a = a .matching
+matching-all (next {r = r} {r′ = r′} {rs = rs} {rs′ = rs′} s e t) b b′ h h′ a =
+    matching-all t (add b r) (add b′ r′) (extends-add b r h .shut) (extends-add b′ r′ h′ .shut) (matching-add r r′ rs rs′ b b′ h h′ a)
 
-pub twin-adds : {rs rs′ : List Row} (b b′ : Book) → Shut b → Shut b′ → Twins b b′ → SameRows (ledgerOf b) (ledgerOf b′) rs rs′
-    → Twins (addAll b rs) (addAll b′ rs′)
-twin-adds b b′ h h′ t q = twin-all q b b′ h h′ (record { twins = t; may = λ o. q })
+pub matching-adds : {rs rs′ : List Row} (b b′ : Book) → Shut b → Shut b′ → Matching b b′ → SameRows (ledgerOf b) (ledgerOf b′) rs rs′
+    → Matching (addAll b rs) (addAll b′ rs′)
+matching-adds b b′ h h′ t q = matching-all q b b′ h h′ (record { matching = t; may = λ o. q })
