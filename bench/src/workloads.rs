@@ -7,7 +7,7 @@ use compare::store::CELLS;
 pub type Workload = fn(&mut Script);
 
 /// All workloads by their names, in the order of the reports.
-pub const WORKLOADS: [(&str, Workload); 26] = [
+pub const WORKLOADS: [(&str, Workload); 27] = [
     ("format", format),
     ("read", read),
     ("begin", begin),
@@ -28,6 +28,7 @@ pub const WORKLOADS: [(&str, Workload); 26] = [
     ("open: 2,047 open changes of one cell", |script| open_changes(script, 1)),
     ("open: 2,047 open changes of 64 cells", |script| open_changes(script, 64)),
     ("open: 16 visits, many hand-overs", open_handed_round),
+    ("open: 3,840 rows, hand-overs of one cell", open_handed_to_and_fro),
     ("open: 2,047 changes undone, of 64 cells", open_undone),
     ("commit, power fails in its force", cut_commit),
     ("open: power fails in its undo rows", cut_open),
@@ -212,6 +213,17 @@ fn open_handed_round(script: &mut Script) {
             script.prepare([Change(visit, cell, round), HandOver(visit, visit % 16 + 1, cell)]);
         }
     }
+    script.prepare([Force]);
+    script.measure([Open]);
+}
+
+/// Two visits that hand the one change to and fro: a log of 3,840 rows, of which three are no hand-overs.
+fn open_handed_to_and_fro(script: &mut Script) {
+    script.prepare([Begin, Begin, Change(1, 0, 100)]);
+    script.prepare((3..3_840).map(|row| match row % 2 {
+        1 => HandOver(1, 2, 0),
+        _ => HandOver(2, 1, 0),
+    }));
     script.prepare([Force]);
     script.measure([Open]);
 }

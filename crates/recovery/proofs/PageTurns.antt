@@ -1,6 +1,6 @@
 -- The turns of the loops over pages and rows of the forward part, and a row of a page by its bytes. Assumes nothing.
 use Prim.Native.Nat.{ℕ, zero, suc, _+_, _-_, _*_, _/_, _%_, _≤_, _<_}
-use mathlib.Core.Path.{_≡_, refl, ap, _∙_}
+use mathlib.Core.Path.{_≡_, refl, ap, sym, _∙_}
 use mathlib.Core.Bool.{Bool, true, false, cond}
 use mathlib.Core.List.{List}
 use native.Mathlib.Omega.{arith}
@@ -15,11 +15,12 @@ use Rattle.book.specs.Numbers.{number}
 use Rattle.book.specs.Rows.{Row, Effect, nothing, moves, effect}
 use Rattle.book.specs.RowBytes.{rowOf, rowOfKind}
 use Rattle.book.specs.Cells.{touches}
+use Rattle.book.specs.Pages.{pageOf}
 use Rattle.rows.specs.Meaning.{coded, effectOf, effectMeant}
 use Rattle.rows.proofs.Meanings.{meant-coded, effect-meant}
 use Rattle.charts.proofs.Lengths.{page-length}
 use Rattle.wal.specs.Looking.{rowBytesAt}
-use Rattle.recovery_model.specs.Charts.{pageRedone, redoFrom}
+use Rattle.recovery_model.specs.Charts.{pageRedone, redoFrom, redoPage, pageNamed, Ends}
 use Rattle.recovery_model.specs.Forward.{pageWith}
 
 -- ── A row of a page ───────────────────────────────────────────────────────────────────────────────────────────────────
@@ -69,6 +70,33 @@ module _ (log : List ℕ) (p rows : ℕ) where
   pub redo-end : (k : ℕ) (bs : List ℕ) → rows ≤ k → redoFrom (rows - k) k log p bs ≡ bs
   unfolding redoFrom
   redo-end k bs h = let e : rows - k ≡ 0 = omega arith in rw e
+
+  -- a page that none of the m rows from k on names stays as it is
+  redo-unnamed : (m k : ℕ) (bs : List ℕ) → ((j : ℕ) → k ≤ j → j < k + m → pageNamed log j ≡ p → ⊥) → redoFrom m k log p bs ≡ bs
+  unfolding redoFrom
+  redo-unnamed zero k bs h = refl
+  redo-unnamed (suc m) k bs h =
+      let away = ne-eqb (pageNamed log k) p (h k (omega arith) (omega arith)) in
+      rw (redone-by-cell (rowBytesAt log k) p (suc k) bs, away) (redo-unnamed m (suc k) bs (λ j a b. h j (omega arith) (omega arith)))
+
+  -- n rows that do not name the page make no difference behind m others
+  redo-ends : (m n k : ℕ) (bs : List ℕ) → ((j : ℕ) → k + m ≤ j → j < k + m + n → pageNamed log j ≡ p → ⊥) → redoFrom (m + n) k log p bs ≡ redoFrom m k log p bs
+  unfolding redoFrom
+  redo-ends zero n k bs h = let e : 0 + n ≡ n = omega arith in rw e (redo-unnamed n k bs (λ j a b. h j (omega arith) (omega arith)))
+  redo-ends (suc m) n k bs h =
+      let e : suc m + n ≡ suc (m + n) = omega arith in rw e (redo-ends m n (suc k) _ (λ j a b. h j (omega arith) (omega arith)))
+
+  -- the rows up to the last one that names the page come to what all rows come to
+  pub page-ends : (ends bs : List ℕ) → Ends log rows ends → redoPage log (getD ends p 0) p bs ≡ redoPage log rows p bs
+  unfolding redoPage
+  page-ends ends bs h =
+      let mark = pageOf bs .mark in
+      let end = getD ends p 0 in
+      let w = h .within p in
+      let m = end - mark in
+      let n = rows - mark - m in
+      let e : rows - mark ≡ m + n = omega arith in
+      rw e (sym (redo-ends m n mark bs (λ k a b q. let z = h .among k (omega arith) in omega (arith, rw q at z))))
 
 pub redone-length : (p : ℕ) (e : Effect) (n : ℕ) (bs : List ℕ) → length (pageRedone p e n bs) ≡ length bs
 redone-length p nothing n bs = refl

@@ -2,7 +2,7 @@
 ghost use mathlib.Core.Path.{_≡_};
 ghost use mathlib.Core.Bool.{_||_};
 ghost use Prim.Native.Nat.{_+_, _-_, _*_, _/_, _<_};
-ghost use lib.ListN.{length};
+ghost use lib.ListN.{length, replicate};
 ghost use lib.Dec.{eqb};
 ghost use Rattle.book.specs.Rows.{effect};
 ghost use Rattle.book.specs.RowBytes.{rowOf};
@@ -11,7 +11,7 @@ ghost use Rattle.book.specs.Limits.{rowLength, pageLimit, pageLength, places, c
 ghost use Rattle.rows.specs.Meaning.{effectMeant};
 ghost use Rattle.recovery_model.specs.Scan.{rowIn};
 ghost use Rattle.recovery_model.specs.Checking.{Rows};
-ghost use Rattle.recovery_model.specs.Charts.{isPageBy, badPageBy, redoFrom, redoPage, redoCharts};
+ghost use Rattle.recovery_model.specs.Charts.{isPageBy, badPageBy, redoFrom, redoPage, redoCharts, namedPages, Ends};
 ghost use Rattle.recovery_model.specs.Forward.{pageWith};
 use charts::check::page_ok;
 use charts::page::move_place;
@@ -31,6 +31,9 @@ use wal::look::row_of_part;
 
 // The cells of a page as a number of a cell's type.
 const CELLS_OF_PAGE: u8 = PLACES as u8;
+
+// The pages that the byte of a row's cell can name.
+const NAMED_PAGES: usize = 37;
 
 // ── The check ─────────────────────────────────────────────────────────────────────────────────────────────────────────
 
@@ -148,17 +151,33 @@ pub(crate) fn redo_page(log: &[u8], rows: usize, page: &mut [u8], p: usize)
     redo_rows(log, mark.0 as usize, rows, page, p);
 }
 
-// All pages of the copy.
+// For each page the number of rows up to the last one whose cell byte names it, whatever its kind; 0 where none does.
+fn note_ends(log: &[u8], rows: usize, ends: &mut [u16])
+    requires { ⌜ Rows (length (now log)) rows ⌝ }
+    requires { ⌜ now ends ≡ replicate namedPages 0 ⌝ }
+    ensures { λ _. ⌜ Ends (now (log .entry)) rows (now (ends .exit)) ⌝ }
+{
+    let mut k: usize = 0;
+    while k < rows {
+        let p = index(log[ROW_LENGTH * k + 3]) / PLACES;
+        ends[p] = (k + 1) as u16;
+        k += 1;
+    }
+}
+
+// All pages of the copy, one after another, each by the rows up to the last one that names it: no later row changes it.
 pub fn redo(log: &[u8], rows: usize, copy: &mut [u8])
     requires { ⌜ Rows (length (now log)) rows ⌝ }
     requires { ⌜ length (now copy) ≡ chartsLength ⌝ }
     ensures { λ _. ⌜ now (copy .exit) ≡ redoCharts (now (log .entry)) rows (now (copy .entry)) ⌝ }
 {
+    let mut ends = [0u16; NAMED_PAGES];
+    note_ends(log, rows, &mut ends);
     let mut p: usize = 0;
     while p < PAGE_LIMIT {
         let a = PAGE_LENGTH * p;
         let e = a + PAGE_LENGTH;
-        redo_page(log, rows, &mut copy[a..e], p);
+        redo_page(log, ends[p] as usize, &mut copy[a..e], p);
         p += 1;
     }
 }

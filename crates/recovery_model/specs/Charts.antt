@@ -1,8 +1,9 @@
 -- The check of the pages against the log, and the forward part of an opening, page by page.
-use Prim.Native.Nat.{ℕ, zero, suc, _-_, _%_}
+use Prim.Native.Nat.{ℕ, zero, suc, _-_, _/_, _%_, _≤_, _<_}
 use mathlib.Core.Bool.{Bool, cond, _&&_, _||_}
 use mathlib.Core.List.{List}
 use lib.Dec.{eqb}
+use lib.ListN.{getD}
 use Rattle.book.specs.Lists.{firstFailing, tabulate, join}
 use Rattle.book.specs.Limits.{places, pageLimit}
 use Rattle.book.specs.Rows.{Effect, nothing, moves, effect}
@@ -31,6 +32,19 @@ pageRedone p (moves c z) n bs = cond (touches p (moves c z)) (pageMoved bs (c % 
 unfoldable pub redoFrom : ℕ → ℕ → List ℕ → ℕ → List ℕ → List ℕ
 redoFrom zero k log p bs = bs
 redoFrom (suc m) k log p bs = redoFrom m (suc k) log p (pageRedone p (effect (rowOf (rowBytesAt log k))) (suc k) bs)
+
+-- The pages that a byte can name as that of a cell: 255 / 7 + 1. There are 32, so that no allowed row names the others.
+abbrev pub namedPages : ℕ
+namedPages = 37
+
+-- the page that the cell byte of row k, counted from 0, names
+abbrev pub pageNamed : List ℕ → ℕ → ℕ
+pageNamed log k = getD (rowBytesAt log k) 3 0 / places
+
+-- for each page a number of rows, at most the first `rows`, among which are all of these that name it
+pub record Ends (log : List ℕ) (rows : ℕ) (ends : List ℕ) : Type 0 where
+  pub among : (k : ℕ) → k < rows → k < getD ends (pageNamed log k) 0
+  pub within : (p : ℕ) → getD ends p 0 ≤ rows
 
 -- 01, open, forward: each row above the page's mark is applied
 unfoldable pub redoPage : List ℕ → ℕ → ℕ → List ℕ → List ℕ

@@ -8,8 +8,7 @@ ghost use lib.Dec.{eqb};
 ghost use Rattle.book.specs.Lists.{eqZ};
 ghost use Rattle.book.specs.Limits.{rowLimit};
 ghost use Rattle.rows.specs.Meaning.{meant};
-ghost use Rattle.tables_model.specs.Visits.{tablesIn, Listed};
-ghost use Rattle.tables_model.specs.Rows.{Ready, Ranged, index, reserveBy, roomBy, highestOf, growsBy, hasEntry, isChange, mayAct};
+ghost use Rattle.tables_model.specs.Rows.{Ready, Ranged, index, reserveBy, roomBy, highestOf, growsBy, hasEntry, isChange};
 ghost use Rattle.tables_model.specs.Table.{among};
 ghost use Rattle.tables_model.specs.Rows.{mayHandOverBy, mayUndo, mayAbort, lawfulBy, roomToBegin, roomToChange, withinLimitsBy, judgeBy};
 use crate::lookup::find_growing;
@@ -17,8 +16,8 @@ use crate::lookup::highest;
 use crate::lookup::holds_cell;
 use crate::lookup::last_found;
 use crate::lookup::open_count;
-use crate::visits::is_bearing;
 use crate::visits::is_listed;
+use crate::visits::may_act;
 use rows::Cell;
 use rows::Lsn;
 use rows::Row;
@@ -89,18 +88,6 @@ pub fn has_entry(t: Counts, scopes: &[u16], v: Visit, c: Cell) -> bool
     t.used < SCOPE_LIMIT || grows_scope(t, scopes, v, c)
 }
 
-// The visit is active, and no undo row bears it.
-pub fn may_act(t: Counts, visits: &[u16], v: Visit) -> bool
-    requires { ⌜ Listed (length (now visits)) (t .count) ⌝ }
-    ensures { λ r. ⌜ r ≡ mayAct (tablesIn t (now (visits .entry))) (v .0) ⌝ }
-{
-    if is_listed(t, visits, v) {
-        !is_bearing(t, visits, v)
-    } else {
-        false
-    }
-}
-
 pub fn may_hand_over(
     t: Counts,
     visits: &[u16],
@@ -115,16 +102,10 @@ pub fn may_hand_over(
     if g.0 == r.0 {
         return false;
     }
-    if !is_listed(t, visits, g) {
+    if !may_act(t, visits, g) {
         return false;
     }
-    if !is_listed(t, visits, r) {
-        return false;
-    }
-    if is_bearing(t, visits, g) {
-        return false;
-    }
-    if is_bearing(t, visits, r) {
+    if !may_act(t, visits, r) {
         return false;
     }
     holds_cell(scopes, t.used, g, cs)

@@ -3,7 +3,9 @@ ghost use mathlib.Core.Path.{_≡_};
 ghost use lib.ListN.{length, getD, set, take};
 ghost use Rattle.book.specs.Lists.{padTo};
 ghost use Rattle.book.specs.Limits.{activeLimit};
-ghost use Rattle.tables_model.specs.Visits.{tablesIn, placesIn, Placed, Listed, Shifts, MayBegin, Without, isOf, isBearer, marked, isListed, isBearing, withBegun, withUndo, withEnded, keptAt};
+ghost use Rattle.tables_model.specs.Visits.{tablesIn, placesIn, Placed, Listed, Shifts, MayBegin, Without};
+ghost use Rattle.tables_model.specs.Visits.{isOf, marked, isListed, withBegun, withUndo, withEnded, keptAt};
+ghost use Rattle.tables_model.specs.Rows.{mayAct};
 ghost use Rattle.tables_model.specs.Meaning.{vacant};
 ghost use Rattle.tables_model.specs.Layout.{actives};
 use crate::entries::flag_of;
@@ -61,27 +63,25 @@ pub fn is_listed(t: Counts, visits: &[u16], v: Visit) -> bool
     false
 }
 
-fn bears(a: Active, v: Visit) -> bool
-    ensures { λ r. ⌜ r ≡ isBearer (v .0) a ⌝ }
-{
-    is_of(a, v) && a.bears
-}
-
-// The visit is listed, and an undo row bears it.
-pub fn is_bearing(t: Counts, visits: &[u16], v: Visit) -> bool
+// The visit is listed, and no undo row bears it. All places are looked at, since a table of any origin may list a visit twice.
+pub fn may_act(t: Counts, visits: &[u16], v: Visit) -> bool
     requires { ⌜ Listed (length (now visits)) (t .count) ⌝ }
-    ensures { λ r. ⌜ r ≡ isBearing (tablesIn t (now (visits .entry))) (v .0) ⌝ }
+    ensures { λ r. ⌜ r ≡ mayAct (tablesIn t (now (visits .entry))) (v .0) ⌝ }
 {
     let count = t.count;
+    let mut seen = false;
     let mut i: usize = 0;
     while i < count {
         let a = active_at(visits, i);
-        if bears(a, v) {
-            return true;
+        if is_of(a, v) {
+            if a.bears {
+                return false;
+            }
+            seen = true;
         }
         i += 1;
     }
-    false
+    seen
 }
 
 // A begin row: the visit is put behind the last.
