@@ -7,7 +7,7 @@ use compare::store::CELLS;
 pub type Workload = fn(&mut Script);
 
 /// All workloads by their names, in the order of the reports.
-pub const WORKLOADS: [(&str, Workload); 27] = [
+pub const WORKLOADS: [(&str, Workload); 33] = [
     ("format", format),
     ("read", read),
     ("begin", begin),
@@ -25,8 +25,14 @@ pub const WORKLOADS: [(&str, Workload); 27] = [
     ("abort of 2,047 changes of 64 cells", |script| long_abort(script, 64)),
     ("open: empty log", |script| script.measure([Open])),
     ("open: 4,096 committed rows", open_committed),
-    ("open: 2,047 open changes of one cell", |script| open_changes(script, 1)),
-    ("open: 2,047 open changes of 64 cells", |script| open_changes(script, 64)),
+    ("open: 63 open changes of one cell", |script| open_changes(script, 63, 1)),
+    ("open: 255 open changes of one cell", |script| open_changes(script, 255, 1)),
+    ("open: 1,023 open changes of one cell", |script| open_changes(script, 1_023, 1)),
+    ("open: 2,047 open changes of one cell", |script| open_changes(script, 2_047, 1)),
+    ("open: 1,023 open changes of 64 cells", |script| open_changes(script, 1_023, 64)),
+    ("open: 2,047 open changes of 64 cells", |script| open_changes(script, 2_047, 64)),
+    ("open: 3,072 rows, 1,024 to write", |script| open_long(script, 3_072)),
+    ("open: 3,840 rows, 256 to write", |script| open_long(script, 3_840)),
     ("open: 16 visits, many hand-overs", open_handed_round),
     ("open: 3,840 rows, hand-overs of one cell", open_handed_to_and_fro),
     ("open: 2,047 changes undone, of 64 cells", open_undone),
@@ -197,9 +203,25 @@ fn committed(script: &mut Script) {
     }
 }
 
-fn open_changes(script: &mut Script, cells: u16) {
+fn open_changes(script: &mut Script, changes: u16, cells: u16) {
     script.prepare([Begin]);
-    script.prepare(changes_of(2_047, cells));
+    script.prepare(changes_of(changes, cells));
+    script.prepare([Force]);
+    script.measure([Open]);
+}
+
+/// A log of so many rows, above 2,048, whose opening writes as many as are left: visits of 62 changes that
+/// commit, and one with as many changes as there is room for.
+fn open_long(script: &mut Script, rows: u16) {
+    let left = 4_096 - rows;
+    let visits = (rows - left) / 64;
+    for visit in 1..=visits {
+        script.prepare([Begin]);
+        script.prepare((0..62).map(|cell| Change(visit, cell, 100)));
+        script.prepare([Commit(visit)]);
+    }
+    script.prepare([Begin]);
+    script.prepare((1..left).map(|_| Change(visits + 1, 0, 100)));
     script.prepare([Force]);
     script.measure([Open]);
 }

@@ -2,6 +2,7 @@
 //! copies, scopes and states are compared with the paper's.
 
 mod careless;
+pub mod cost;
 mod endings;
 mod memory;
 mod pages;
@@ -13,7 +14,7 @@ use crate::observe::begins::SinceBegin;
 use crate::observe::conditions::{self, Conditions};
 use crate::observe::openings::Opening;
 use crate::observe::{self, Moment};
-use crate::paper::{Ledger, Paper};
+use crate::paper::{rows_of, Ledger, Paper};
 use crate::report;
 use crate::steps::{place, Step};
 use crate::store::{Answer, Call, Lengths, Scope, Store, Writes, RIGHT};
@@ -257,6 +258,7 @@ impl<'a> Arena<'a> {
             self.first_condition("open", &holding, answer)?;
         } else {
             self.powered(power::judge(fuse, answer, self.paper.fuse))?;
+            self.powered(cost::judge(&rows_of(&self.paper.log)[..stored], answer))?;
         }
         self.session_at(fuse, stored, before.open, answer)?;
         let opening = Opening {

@@ -2,6 +2,7 @@
 //! each of them can be made again.
 
 pub mod begins;
+pub mod costliest;
 pub mod counts;
 pub mod crowded;
 pub mod cuts;

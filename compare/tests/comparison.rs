@@ -1,7 +1,7 @@
 //! The comparison itself: it finds a store that is wrong, and the definitions that it rests on.
 
 use compare::adapters::FastStore;
-use compare::arena::{Arena, Maker};
+use compare::arena::{cost, Arena, Maker};
 use compare::bench::{Bench, Failure};
 use compare::cases::sessions::{habits, next_call, Habits};
 use compare::cases::{garbage, pages_alone, sessions};
@@ -217,6 +217,26 @@ fn pages_alone_that_are_wrong_are_found() {
     is_found(|| Wrong::boxed(Fault::Mark), pages_alone::play, "pages redone alone");
     is_found(|| Wrong::boxed(Fault::Lent), pages_alone::play, "leaves other bytes");
     is_found(|| Wrong::boxed(Fault::Forward), pages_alone::play, "pages redone alone");
+}
+
+#[test]
+fn openings_that_write_another_number_of_rows_are_found() {
+    let rows = |kinds: &[u8]| -> Vec<Row> {
+        let of_kind = |&kind: &u8| Row::read(&[kind, 1, 0, 0, 0, 0, 0, 0, 0, 0, 0, 0, 0, 0, 0, 0]);
+        kinds.iter().map(of_kind).collect()
+    };
+    let passes = |found: &[Row], number, rows| {
+        let writes = Writes { rows, pages: 0 };
+        cost::judge(found, Answer { number, value: 0, writes }).is_ok()
+    };
+    let costliest = rows(&[BEGIN, CHANGE]);
+    assert!(passes(&costliest, 0, 2) && passes(&costliest, 5, 1));
+    assert!(!passes(&costliest, 0, 1) && !passes(&costliest, 0, 3) && !passes(&costliest, 5, 3));
+    let kept = rows(&[BEGIN, CHANGE, COMMIT]);
+    assert!(passes(&kept, 0, 0) && passes(&kept, 0, 2));
+    assert!(!passes(&kept, 0, 3) && !passes(&kept, 5, 3));
+    let long = rows(&[HAND_OVER; 3_072]);
+    assert!(passes(&long, 0, 1_024) && !passes(&long, 0, 1_025));
 }
 
 #[test]

@@ -1,9 +1,10 @@
 //! The answers that documents 01 and 02 give: 01's twelve cases, those of its text and its run file's example,
-//! the counts of 02's request L1, the whole visits of L2, and the begins of L4.
+//! the counts of 02's request L1, the whole visits of L2, the begins of L4, and the costliest openings of L6.
 
 use compare::adapters::FastStore;
 use compare::arena::{Arena, Maker};
 use compare::cases::begins::BEGINS;
+use compare::cases::costliest::COSTLIEST;
 use compare::cases::counts::COUNTS;
 use compare::cases::document::Case;
 use compare::cases::text::TEXT;
@@ -55,6 +56,11 @@ fn whole_visits_handed_over() {
 #[test]
 fn begins_that_are_stored() {
     play(&BEGINS);
+}
+
+#[test]
+fn costliest_openings() {
+    play(&COSTLIEST);
 }
 
 fn stores() -> [Box<dyn Store>; 4] {

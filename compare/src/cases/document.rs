@@ -1,7 +1,8 @@
 //! Cases with the answers that documents 01 and 02 give: the twelve of 01's list, those of its text, the
-//! counts of 02's request L1, the whole visits of L2, and the begins of L4.
+//! counts of 02's request L1, the whole visits of L2, the begins of L4, and the costliest openings of L6.
 
 use super::begins::BEGINS;
+use super::costliest::COSTLIEST;
 use super::counts::COUNTS;
 use super::text::TEXT;
 use super::twelve::TWELVE;
@@ -18,7 +19,8 @@ pub struct Case {
     pub play: fn(&mut Arena) -> Outcome<()>,
 }
 
-const LISTS: [&[Case]; 6] = [&TWELVE, &TEXT, &COUNTS, &WHOLE_VISITS, &WHOLE_VISIT_ROWS, &BEGINS];
+const LISTS: [&[Case]; 7] =
+    [&TWELVE, &TEXT, &COUNTS, &WHOLE_VISITS, &WHOLE_VISIT_ROWS, &BEGINS, &COSTLIEST];
 
 pub const COUNT: u64 = {
     let (mut count, mut at) = (0, 0);

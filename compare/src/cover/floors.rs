@@ -34,7 +34,7 @@ pub const TABLES: [Table; 5] = [PLAYED, ANSWERS, PAIRS, WRITES, SHAPES];
 pub const PLAYED: Table = Table {
     title: "cases and calls, by part",
     lines: &[
-        ("document", &[("cases", 28), ("calls", 6_800)]),
+        ("document", &[("cases", 30), ("calls", 9_900)]),
         ("short", &[("cases", 9_500), ("calls", 95_000)]),
         ("sessions", &[("cases", 550), ("calls", 82_000)]),
         ("rows", &[("cases", 3_300), ("calls", 7_500)]),

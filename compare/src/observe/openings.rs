@@ -1,6 +1,7 @@
 //! What an opening found and left.
 
 use super::{is_on_page, label, undo_rows, whole_visits, writes, Moment};
+use crate::arena::cost::{all_begins_and_changes, bound};
 use crate::cover::Cover;
 use crate::paper::{self, get_mark, rows_of, Ledger, Row, UNDO};
 use crate::store::{Answer, Lengths};
@@ -58,9 +59,16 @@ pub fn open(cover: &mut Cover, opening: &Opening) {
     let last_write = !new.is_empty() && fuse == Some(new.len() as u32);
     cover.shape_if(last_write, "opening done with the last write of its fuse");
     cover.shape_if(stored == 4_096, "opening of a full log");
+    let found = &rows[..stored];
+    let costliest = stored > 0 && all_begins_and_changes(found);
+    cover.shape_if(costliest, "opening of begins and changes alone");
+    cover.shape_if(stored == 2_048 && costliest, "opening of 2,048 begins and changes");
+    cover.shape_if(stored > 2_048, "opening of more than 2,048 rows");
+    let full = stored > 2_048 && new.len() == bound(stored) && !new.is_empty();
+    cover.shape_if(full, "opening of more than 2,048 rows that fills the log");
     undo_rows(cover, &rows, new);
-    found_rows(cover, &rows[..stored]);
-    whole_visits::opened(cover, &rows[..stored]);
+    found_rows(cover, found);
+    whole_visits::opened(cover, found);
     for page in 0..32 {
         let mark = usize::from(get_mark(opening.charts, usize::from(page)));
         if mark > 0 {

@@ -102,6 +102,15 @@ inv-change l v c a e i =
       space = rw (act, fresh l i) (omega arith);
     }
 
+-- a hand-over between active visits leaves as many changes open
+pub handed-open : (l : Ledger) (g r : ℕ) (cs : ℕ → Bool) → isActive l g ≡ true → isActive l r ≡ true
+    → length (keep (isOpenChange l) (map (pass g r cs) (l .changes))) ≡ length (openChanges l)
+handed-open l g r cs actg actr =
+    ap length (keep-map (isOpenChange l) (pass g r cs) (l .changes)) ∙
+    length-map (keep (λ x. isOpenChange l (pass g r cs x)) (l .changes)) (pass g r cs) ∙
+    ap length (keep-same _ _ (l .changes) (λ x m.
+    pass-cases (λ (z : Change). isOpenChange l z ≡ isOpenChange l x) g r cs x (λ q. rw (q, actg, actr)) refl))
+
 inv-handed : (l : Ledger) (g r : ℕ) (cs : ℕ → Bool) → (mayHandOver l g r cs && room l 1) ≡ true → Inv l → Inv (handedOver l g r cs)
 unfolding reserve
 inv-handed l g r cs e i =
@@ -122,11 +131,7 @@ inv-handed l g r cs e i =
       fate = rw actr;
     })
     (record { row = let k = d .row in omega arith; low = d .low; held = d .held; first = d .first; fit = d .fit; bears = d .bears; fate = d .fate }) in
-    let same : length (keep (isOpenChange l) (map (pass g r cs) (l .changes))) ≡ length (openChanges l) =
-    ap length (keep-map (isOpenChange l) (pass g r cs) (l .changes)) ∙
-    length-map (keep (λ x. isOpenChange l (pass g r cs x)) (l .changes)) (pass g r cs) ∙
-    ap length (keep-same _ _ (l .changes) (λ x m.
-    pass-cases (λ (z : Change). isOpenChange l z ≡ isOpenChange l x) g r cs x (λ q. rw (q, actg, actr)) refl)) in
+    let same = handed-open l g r cs actg actr in
     record {
       old = i .old;
       first = i .first;
@@ -144,7 +149,7 @@ inv-handed l g r cs e i =
 -- ── Commit and abort ──────────────────────────────────────────────────────────────────────────────────────────────────
 
 -- the open changes of a visit that ends fall away
-ends-less : (l : Ledger) (v : ℕ)
+pub ends-less : (l : Ledger) (v : ℕ)
     → length (keep (λ x. member (x .holder) (without v (l .active)) && not (isUndone l x)) (l .changes)) ≤ length (openChanges l)
 ends-less l v = length-keep _ _ (l .changes) (λ x m h.
     let act = and-l (member (x .holder) (without v (l .active))) (not (isUndone l x)) h in

@@ -52,9 +52,11 @@ pub mod Flush
 pub mod AnyCharts
 pub mod OpenBytes
 pub mod ReopenedBytes
+pub mod OpeningCost
 -- cases
 pub mod WorkedExamples
 pub mod OneVisit
+pub mod CostliestLogs
 pub mod Cases
 pub mod Example
 -- worked examples

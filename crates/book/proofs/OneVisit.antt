@@ -66,7 +66,7 @@ come-open i = all-open i i
 
 -- ── The limits ────────────────────────────────────────────────────────────────────────────────────────────────────────
 
-scope-fits : (i : ℕ) → scopeFits (come i) 1 0 ≡ true
+pub scope-fits : (i : ℕ) → scopeFits (come i) 1 0 ≡ true
 unfolding scopesInUse
 scope-fits zero = refl
 scope-fits (suc i) = refl

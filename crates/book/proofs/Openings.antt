@@ -11,7 +11,7 @@ use borrow.Author.Tests.{ne-eqb}
 use Rattle.book.specs.Lists.{keep}
 use Rattle.book.specs.Rows.{Row, isUndo}
 use Rattle.book.specs.Ledger.{Change, Ledger, ledger}
-use Rattle.book.specs.Rules.{openChanges, openHeld, isOpenChange, allowedLog}
+use Rattle.book.specs.Rules.{openChanges, openHeld, isOpenChange, reserve, allowedLog}
 use Rattle.book.specs.Cells.{applied, keptSum}
 use Rattle.book.specs.Power.{Book, Fuse, PowerHolds}
 use Rattle.book.specs.Book.{undoOf, takeBack, everyone, closing, Answer, answer, refused, ended, reopened, reopen, opening}
@@ -26,6 +26,16 @@ use Rattle.book.proofs.Force.{reopened-empty, reopened-holds}
 use Rattle.book.proofs.Sound.{opening-book, stored-allowed}
 
 -- ── The rows that an opening names ────────────────────────────────────────────────────────────────────────────────────
+
+-- as many as the reserve
+pub closing-long : (l : Ledger) → length (closing l) ≡ reserve l
+unfolding takeBack reserve
+closing-long l =
+    let a = length-append (map undoOf (keep (λ x. everyone (x .holder)) (openChanges l))) (map Row.abort (keep everyone (l .active))) in
+    let b = length-map (keep (λ x. everyone (x .holder)) (openChanges l)) undoOf in
+    let c = length-map (keep everyone (l .active)) Row.abort in
+    let d = ap length (keep-all (λ (x : Change). everyone (x .holder)) (openChanges l) (λ x m. refl)) in
+    let f = ap length (keep-all everyone (l .active) (λ x m. refl)) in omega arith
 
 -- and as many of them are undo rows as there are open changes
 pub closing-undos : (l : Ledger) → Inv l → length (keep isUndo (closing l)) ≡ length (openChanges l)

@@ -20,4 +20,5 @@ pub mod Pages
 pub mod Opening
 pub mod Logs
 pub mod Reading
+pub mod OpeningCost
 pub mod Cases

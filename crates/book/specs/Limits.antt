@@ -1,4 +1,4 @@
--- The numbers that document 01 fixes, each in one place: sizes of the store, lengths of the lent buffers, limits.
+-- The numbers that documents 01 and 02 fix, each in one place: sizes of the store, lengths of the lent buffers, limits.
 use Prim.Native.Nat.{ℕ}
 
 -- 01: 4,096 rows of 16 bytes, so a log of 65,536 bytes
@@ -58,3 +58,7 @@ chartBound = 200000000
 -- 01: 4,096 rows move a cell by at most 134,217,728
 abbrev pub moveBound : ℕ
 moveBound = 134217728
+
+-- 02, L6: "n from 0 to 2,048": no opening writes more rows
+abbrev pub costLimit : ℕ
+costLimit = 2048

@@ -3,6 +3,7 @@ pub mod Refused
 pub mod Freedom
 pub mod Demand
 pub mod Swapped
+pub mod OpeningCost
 pub mod Below
 pub mod FlatTables
 pub mod TableRanges

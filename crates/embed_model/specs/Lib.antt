@@ -6,5 +6,6 @@ pub mod Host
 pub mod Freedom
 pub mod Demand
 pub mod Swapped
+pub mod OpeningCost
 pub mod EveryList
 pub mod Head

@@ -1,4 +1,5 @@
-// The numbers that document 01 fixes, each in one place, under their names in `book/specs/Limits`: sizes of the store, lengths of the lent buffers, limits.
+// The numbers that documents 01 and 02 fix, each in one place, under their names in `book/specs/Limits`: sizes of the store, lengths of the lent buffers,
+// limits.
 
 // A log of 4,096 rows of 16 bytes.
 pub const ROW_LIMIT: usize = 4096;
@@ -34,3 +35,6 @@ pub const SCOPE_LIMIT: usize = 64;
 pub const TAIL_LIMIT: usize = 64;
 
 pub const TAIL_LENGTH: usize = TAIL_LIMIT * ROW_LENGTH;
+
+// No opening writes more rows.
+pub const COST_LIMIT: usize = 2048;

@@ -23,11 +23,11 @@ use Rattle.book.proofs.Steps.{extends-through, extends-open}
 use Rattle.book.proofs.Sound.{ended-book, Decided, refuses, accepts, decided}
 use Rattle.book.proofs.Openings.{ended-open, reopened-stored}
 use Rattle.book.proofs.Reading.{demand-2-reading}
-use Rattle.state.specs.World.{World, rightLengths, stateOf, tableOf, worldOf, Represents}
+use Rattle.state.specs.World.{World, rightLengths, LogIs, stateOf, tableOf, worldOf, Represents}
 use Rattle.state.specs.Contracts.{Answered, openedWorld, OpenPost, CallPost, chartsAfter, outcomeIn, byBook}
 use Rattle.state.proofs.Lengths.{represented-lengths}
 use Rattle.state.proofs.OpenedStores.{opens-bytes}
-use Rattle.sessions.specs.Demand2.{HasRows, Landed, WritesRows, LogIs, Reads, Demand2}
+use Rattle.sessions.specs.Demand2.{HasRows, Landed, WritesRows, Reads, Demand2}
 use Rattle.sessions.proofs.LentBuffers.{right}
 
 -- ── Rows that landed ──────────────────────────────────────────────────────────────────────────────────────────────────

@@ -11,14 +11,13 @@ use Rattle.book.specs.Lists.{StartsWith, padTo}
 use Rattle.book.specs.Limits.{pageLimit}
 use Rattle.book.specs.Rows.{Row}
 use Rattle.book.specs.Ledger.{ledger}
-use Rattle.book.specs.Rules.{allowedLog}
 use Rattle.book.specs.Calls.{Call, Typed}
 use Rattle.book.specs.Power.{Book, Fuse, rowsOf}
 use Rattle.book.specs.Book.{closing, adds, call, reopen}
 use Rattle.book.specs.LogBytes.{rowsBytes, logBytes}
 use Rattle.book.specs.Opening.{badPage}
 use Rattle.book.specs.Reading.{FirstBad}
-use Rattle.state.specs.World.{World, rightLengths, tailLength, cleared, Represents}
+use Rattle.state.specs.World.{World, rightLengths, LogIs, tailLength, cleared, Represents}
 use Rattle.state.specs.Contracts.{Answered, answered, OpenPost, CallPost}
 
 -- ── Each call writes exactly its rows ─────────────────────────────────────────────────────────────────────────────────
@@ -45,10 +44,6 @@ pub record WritesRows (cells : ℕ → ℤ) (b : Book) (k : Call) (x : Answered)
   pub failed : x .answer .number ≡ 5 → Landed (x .world) (b .stored) (b .waiting ++ adds b k)
 
 -- ── An opening reads, and refuses ─────────────────────────────────────────────────────────────────────────────────────
-
--- the bytes are those of this allowed log
-abbrev pub LogIs : World → List Row → Type 0
-LogIs w rs = (allowedLog rs ≡ true) × (w .log ≡ logBytes rs)
 
 -- an opening with this fuse
 pub record Reads (f : Fuse) (given : World) (x : Answered) : Type 0 where

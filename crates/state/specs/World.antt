@@ -10,6 +10,7 @@ use lib.Dec.{eqb, leb}
 use Rattle.book.specs.Lists.{padTo}
 use Rattle.book.specs.Limits.{rowLimit, logLength, chartsLength, activeLimit, scopeLimit, tailLimit, cellLimit, chartBound, moveBound}
 use Rattle.book.specs.Rows.{Row}
+use Rattle.book.specs.Rules.{allowedLog}
 use Rattle.book.specs.Cells.{lastOn}
 use Rattle.book.specs.Scopes.{unused}
 use Rattle.book.specs.Power.{Book, Fuse as Allowance, none, left, rowsOf, ledgerOf}
@@ -43,6 +44,10 @@ abbrev pub rightLengths : World → Bool
 rightLengths w =
     eqb (length (w .log)) logLength && eqb (length (w .charts)) chartsLength && eqb (length (w .copy)) chartsLength &&
     eqb (length (w .scopes)) scopeLimit
+
+-- the bytes are those of this allowed log
+abbrev pub LogIs : World → List Row → Type 0
+LogIs w rs = (allowedLog rs ≡ true) × (w .log ≡ logBytes rs)
 
 -- the phase is open
 abbrev pub isOpenPhase : Phase → Bool

@@ -1,0 +1,2 @@
+pub mod NextRow
+pub mod OpenedLogs
