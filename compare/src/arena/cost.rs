@@ -22,5 +22,5 @@ pub fn judge(found: &[Row], answer: Answer) -> Result<(), String> {
     if written <= bound(n) && (reaches == costliest || (answer.number == 5 && costliest)) {
         return Ok(());
     }
-    Err(format!("an opening of {n} rows writes {written}, all begins and changes: {costliest}"))
+    Err(format!("an opening of a log of {n} rows writes {written}, all begins and changes: {costliest}"))
 }

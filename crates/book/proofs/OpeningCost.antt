@@ -16,7 +16,7 @@ use Rattle.book.specs.Rows.{Row, begin, change, handOver, undo, commit, 
 use Rattle.book.specs.Ledger.{Ledger, empty, only, every, after, ledger}
 use Rattle.book.specs.Rules.{isActive, isUndone, isOpenChange, openChanges, reserve, free, lawful, withinLimits, allowed, allAllowed, allowedLog}
 use Rattle.book.specs.Power.{Book, Fuse, none, left, PowerHolds}
-use Rattle.book.specs.Book.{closing, Answer, answer, refused, reopened, reopen}
+use Rattle.book.specs.Book.{closing, Answer, reopened, reopen}
 use Rattle.book.specs.Writes.{noWrites, openingWrites}
 use Rattle.book.specs.LogBytes.{logBytes}
 use Rattle.book.specs.Opening.{rejected, recovered, badPage, openBytes}
@@ -41,52 +41,52 @@ others [] = 0
 others (r ∷ rs) = other r + others rs
 
 -- what one row adds to the reserve
-record Adds (l : Ledger) (r : Row) : Type 0 where
+record ReserveAfter (l : Ledger) (r : Row) : Type 0 where
   most : reserve (after l r) + other r ≤ suc (reserve l)
   one : other r ≡ 0 → reserve (after l r) ≡ suc (reserve l)
 
-adds : (l : Ledger) (r : Row) → allowed l r ≡ true → Inv l → Adds l r
+reserve-after : (l : Ledger) (r : Row) → allowed l r ≡ true → Inv l → ReserveAfter l r
 unfolding after allowed lawful withinLimits reserve
-adds l (begin v) e i =
+reserve-after l (begin v) e i =
     let is : eqb v (suc (l .begun)) ≡ true = search (and-l, and-r) in
     let new = eqb-true v (suc (l .begun)) is in
     let same : keep (isOpenChange (after l (begin v))) (l .changes) ≡ openChanges l =
     keep-same _ _ (l .changes) (λ x m. rw (ne-eqb (x .holder) v (λ q. let d = i .good x m .held in omega arith))) in
     let n = ap length same in record { most = omega arith; one = λ z. omega arith }
-adds l (change v c a) e i =
+reserve-after l (change v c a) e i =
     let act : isActive l v ≡ true = search (and-l, and-r) in
     record { most = rw (act, fresh l i) (omega arith); one = λ z. rw (act, fresh l i) (omega arith) }
-adds l (handOver g r c) e i =
+reserve-after l (handOver g r c) e i =
     let actg : isActive l g ≡ true = search (and-l, and-r) depth 8 in
     let actr : isActive l r ≡ true = search (and-l, and-r) depth 8 in
     let same = handed-open l g r (only c) actg actr in
     record { most = omega arith; one = λ z. absurd (omega arith) }
-adds l (undo h c n a) e i =
+reserve-after l (undo h c n a) e i =
     let less = length-keep (isOpenChange (after l (undo h c n a))) (isOpenChange l) (l .changes) (λ x m q.
     let act = and-l (isActive l (x .holder)) (not (eqb (x .row) n || isUndone l x)) q in
     let no = and-r (isActive l (x .holder)) (not (eqb (x .row) n || isUndone l x)) q in
     and-i _ _ act (not-or-r (eqb (x .row) n) (isUndone l x) no)) in
     record { most = omega arith; one = λ z. absurd (omega arith) }
-adds l (commit v) e i =
+reserve-after l (commit v) e i =
     let act : isActive l v ≡ true = search (and-l, and-r) in
     let k = length-without v (l .active) act in let less = ends-less l v in record { most = omega arith; one = λ z. absurd (omega arith) }
-adds l (abort v) e i =
+reserve-after l (abort v) e i =
     let act : isActive l v ≡ true = search (and-l, and-r) in
     let k = length-without v (l .active) act in let less = ends-less l v in record { most = omega arith; one = λ z. absurd (omega arith) }
-adds l (handOverAll g r) e i =
+reserve-after l (handOverAll g r) e i =
     let actg : isActive l g ≡ true = search (and-l, and-r) depth 8 in
     let actr : isActive l r ≡ true = search (and-l, and-r) depth 8 in
     let same = handed-open l g r every actg actr in
     record { most = omega arith; one = λ z. absurd (omega arith) }
 
-adds-all : (l : Ledger) (rs : List Row) → allAllowed l rs ≡ true → Inv l
+reserve-after-all : (l : Ledger) (rs : List Row) → allAllowed l rs ≡ true → Inv l
     → (reserve (foldl after l rs) + others rs ≤ reserve l + length rs) × (others rs ≡ 0 → reserve (foldl after l rs) ≡ reserve l + length rs)
-adds-all l [] e i = (omega arith, λ z. omega arith)
-adds-all l (r ∷ rs) e i =
+reserve-after-all l [] e i = (omega arith, λ z. omega arith)
+reserve-after-all l (r ∷ rs) e i =
     let al = and-l (allowed l r) _ e in
-    let k = adds l r al i in
+    let k = reserve-after l r al i in
     let m = k .most in
-    let p = adds-all (after l r) rs (and-r (allowed l r) _ e) (inv-after l r al i) in
+    let p = reserve-after-all (after l r) rs (and-r (allowed l r) _ e) (inv-after l r al i) in
     let q = p .0 in
     (omega arith, λ z. let a = k .one (omega arith) in let b = p .1 (omega arith) in omega arith)
 
@@ -115,14 +115,14 @@ holds-fewer (left k) m n h p = omega arith
 
 module _ (rs : List Row) (al : allowedLog rs ≡ true) where
   names-most : length (closing (ledger rs)) + others rs ≤ length rs
-  names-most = let k = adds-all empty rs al inv-empty .0 in let z = nothing-open in let c = closing-long (ledger rs) in omega arith
+  names-most = let k = reserve-after-all empty rs al inv-empty .0 in let z = nothing-open in let c = closing-long (ledger rs) in omega arith
 
   names-free : length (closing (ledger rs)) ≤ rowLimit - length rs
   names-free = let k = free-reserve rs al in let c = closing-long (ledger rs) in let n = rows-length rs in omega arith
 
   names-all : BeginsAndChanges rs → length (closing (ledger rs)) ≡ length rs
   names-all h =
-      let k = adds-all empty rs al inv-empty .1 (others-none rs h) in let z = nothing-open in let c = closing-long (ledger rs) in omega arith
+      let k = reserve-after-all empty rs al inv-empty .1 (others-none rs h) in let z = nothing-open in let c = closing-long (ledger rs) in omega arith
 
   -- n is a bound, and so are 4,096 - n and 2,048
   pub names-few : let m = length (closing (ledger rs)) in (m ≤ length rs) × (m ≤ rowLimit - length rs) × (m ≤ costLimit)
@@ -164,14 +164,14 @@ reopen-cost f rs al =
     let m = stores-most f rs in
     let k = names-most rs al in
     let n = names-free rs al in
-    let only : openingWrites rs (reopen f rs) .rows ≡ length rs → BeginsAndChanges rs = λ e. none-others rs (omega arith) in
+    let reaching : openingWrites rs (reopen f rs) .rows ≡ length rs → BeginsAndChanges rs = λ e. none-others rs (omega arith) in
     record {
       most = omega arith;
       free = omega arith;
       worst = omega arith;
       pages = refl;
-      reaches = λ z. (only, λ h. stores-all f rs z .0 ∙ names-all rs al h);
-      only = only;
+      reaches = λ z. (reaching, λ h. stores-all f rs z .0 ∙ names-all rs al h);
+      only = reaching;
       reports = λ z. let s = stores-all f rs z in s .1 ∙ ap pos (sym (s .0));
     }
 
@@ -179,19 +179,19 @@ reopen-cost f rs al =
 
 -- a refused opening writes nothing
 pub refused-cost : (rs : List Row) (a : Answer) → a .number ≢ 0 → Cost rs a noWrites
-refused-cost rs a refused = record {
+refused-cost rs a fails = record {
   most = omega arith;
   free = omega arith;
   worst = omega arith;
   pages = refl;
-  reaches = λ z. absurd (refused z);
-  only = none rs;
-  reports = λ z. absurd (refused z);
+  reaches = λ z. absurd (fails z);
+  only = no-rows rs;
+  reports = λ z. absurd (fails z);
 }
   where
-    none : (rs : List Row) → 0 ≡ length rs → BeginsAndChanges rs
-    none [] e = λ r m. absurd (List·Memᴰ·not-nil m)
-    none (r ∷ rs) e = absurd (omega arith)
+    no-rows : (rs : List Row) → 0 ≡ length rs → BeginsAndChanges rs
+    no-rows [] e = λ r m. absurd (List·Memᴰ·not-nil m)
+    no-rows (r ∷ rs) e = absurd (omega arith)
 
 -- of the bytes of an allowed log, whatever the charts are
 pub bytes-cost : (f : Fuse) (rs : List Row) (charts : List ℕ) → allowedLog rs ≡ true

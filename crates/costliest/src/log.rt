@@ -29,7 +29,7 @@ fn next_row(k: usize) -> Row
     }
 }
 
-// The row's bytes become those of the row after k others.
+// Writes the row behind k others, with k + 1 for its own number.
 fn put_row(log: &mut [u8], k: usize, row: Row)
     requires { ⌜ (rowLength * k + rowLength ≤ length (now log)) × (k < rowLimit) ⌝ }
     ensures { λ _. ⌜ now (log .exit) ≡ putRow (now (log .entry)) k (rowBytes (suc k) (narrowed (meant row))) ⌝ }

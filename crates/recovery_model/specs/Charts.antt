@@ -41,7 +41,7 @@ namedPages = 37
 abbrev pub pageNamed : List ℕ → ℕ → ℕ
 pageNamed log k = getD (rowBytesAt log k) 3 0 / places
 
--- for each page a number of rows, at most the first `rows`, among which are all of these that name it
+-- for each page a number, at most `rows`: every one of the first `rows` rows that names the page is among the first so many
 pub record Ends (log : List ℕ) (rows : ℕ) (ends : List ℕ) : Type 0 where
   pub among : (k : ℕ) → k < rows → k < getD ends (pageNamed log k) 0
   pub within : (p : ℕ) → getD ends p 0 ≤ rows
