@@ -50,8 +50,8 @@
  * processor of a 32-bit unit the source has to be compiled by a back end for it, and the lengths below, which are uint64_t, are then those of that back end.
  * The calls use the stack only. How much of it, and of RAM, was measured on x86-64, and is not proved (folder `bench`).
  *
- * The log is not emptied: it takes 4,096 rows and 255 visits. When CHART_NO_ROOM or CHART_VISITS_USED_UP comes, the host ends all visits, reads the cells and
- * formats the store with them; during the format the power must hold.
+ * The log is not emptied: it takes 4,096 rows, and each visit takes two of them at least. When CHART_NO_ROOM comes, the host ends all visits, reads the cells
+ * and formats the store with them; during the format the power must hold.
  */
 #ifndef CHART_STORE_H
 #define CHART_STORE_H
@@ -63,7 +63,7 @@ extern "C" {
 #endif
 
 /* Of this header. The archive does not know it: link the two from one version. */
-#define CHART_VERSION 5
+#define CHART_VERSION 6
 
 /* ---- Limits ---- */
 
@@ -76,7 +76,7 @@ extern "C" {
 #define CHART_PAGES 32u           /* pages, numbered from 0 */
 #define CHART_PAGE_LENGTH 32u     /* bytes of a page */
 #define CHART_CELLS_PER_PAGE 7u   /* cell c lies on page c / 7 */
-#define CHART_VISITS 255u         /* visits of one log, numbered from 1 */
+#define CHART_VISITS 65535u       /* the highest visit number, from 1; the log has rows for 2,048 visits at most */
 #define CHART_ACTIVE_VISITS 16u   /* visits that are active at a time */
 #define CHART_SCOPES 64u          /* scopes in use at a time: a scope is the changes of one cell by one visit between two of its hand-overs of the cell */
 
@@ -130,7 +130,7 @@ enum {
     CHART_BAD_ROW = 3,         /* open: a row that is not allowed, or a byte after the end; the value is its row. The store is closed; log and charts are unchanged */
     CHART_BAD_PAGE = 4,        /* open: a page with a mark that is no row of it, bytes 2-3 not 0, or a cell out of bounds; the value is the page. Else as 3 */
     CHART_CLOSED = 5,          /* the store is closed, or the power failed in this call (the fuse burnt) and it is closed now, or RAM was altered and its counters are beyond their limits: open it again */
-    CHART_VISITS_USED_UP = 6,  /* begin: 255 visits were begun in this log */
+    CHART_VISITS_USED_UP = 6,  /* begin: 65,535 visits were begun. Only RAM that was altered says so: no log has so many rows */
     CHART_TOO_MANY_ACTIVE = 7, /* begin: 16 visits are active */
     CHART_NO_ROOM = 8,         /* the log has no room besides what active visits need to end */
     CHART_NOT_ACTIVE = 9,      /* the visit is not active */
@@ -150,7 +150,7 @@ static inline const char *chart_text(int number) {
     case CHART_BAD_ROW: return "a row of the log is not allowed";
     case CHART_BAD_PAGE: return "a page does not go with the log";
     case CHART_CLOSED: return "the store is closed";
-    case CHART_VISITS_USED_UP: return "all 255 visits are used up";
+    case CHART_VISITS_USED_UP: return "all 65,535 visits are used up";
     case CHART_TOO_MANY_ACTIVE: return "16 visits are active";
     case CHART_NO_ROOM: return "the log has no room";
     case CHART_NOT_ACTIVE: return "the visit is not active";

@@ -245,10 +245,10 @@ impl Store for FastStore {
         ram
     }
 
-    /// The visits begun are held to their limit too, and rows and reserve together to the log's rows.
+    /// Rows and reserve together are held to the log's rows too.
     fn is_ready(&self) -> bool {
         let state = self.state();
-        if !state.open || !state.is_within_limits() || state.begun > 255 {
+        if !state.open || !state.is_within_limits() {
             return false;
         }
         let open: usize = self.scopes[..state.used].iter().map(|scope| usize::from(scope.count)).sum();
@@ -293,6 +293,8 @@ impl Store for FastStore {
         let wild = rng.below(10);
         // Often few visits hold much more than the counts tell.
         let (visits, count) = rng.pick(&[(17, 2), (1, 0)]);
+        // No call of a store that is left alone finds so many visits begun.
+        let begun = rng.chance(1, 4).then(|| rng.pick(&[u16::MAX - 1, u16::MAX]));
         let mut number = |thing: usize, bound: u16| {
             let any = rng.draw() as u16;
             match thing == wild {
@@ -302,7 +304,7 @@ impl Store for FastStore {
         };
         self.ram.stored = number(0, 4_096);
         self.ram.waiting = number(1, 64);
-        self.ram.tables.begun = number(2, 255);
+        self.ram.tables.begun = begun.unwrap_or_else(|| number(2, 300));
         self.ram.tables.active_count = number(3, 16);
         self.ram.tables.scope_count = number(4, 64);
         if number(10, 1) == 1 {

@@ -22,6 +22,7 @@ pub mod twelve;
 pub mod two_orders;
 pub mod whole_visit_rows;
 pub mod whole_visits;
+pub mod wide_visits;
 
 use crate::bench::{Bench, Failure};
 
@@ -110,10 +111,10 @@ pub const PARTS: [Part; 17] = [
         play: two_orders::play,
     },
     Part {
-        name: "all visits",
-        about: "sessions that use up the visits",
+        name: "many visits",
+        about: "sessions of several hundred visits",
         seeds: [8, 80],
-        play: limits::all_visits,
+        play: limits::many_visits,
     },
     Part {
         name: "all scopes",

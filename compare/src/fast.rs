@@ -193,8 +193,7 @@ fn room(ram: &Ram, lent: &Lent) -> Result<usize, Refused> {
     let within_bounds = ram.phase == Phase::Open
         && usize::from(ram.waiting) <= TAIL_ROWS
         && usize::from(ram.tables.active_count) <= MOST_ACTIVE
-        && usize::from(ram.tables.scope_count) <= MOST_SCOPES
-        && ram.tables.begun <= MOST_VISITS;
+        && usize::from(ram.tables.scope_count) <= MOST_SCOPES;
     if !within_bounds {
         return Err(Refused(5));
     }

@@ -1,5 +1,5 @@
-//! The chart store of document 01 with requests L1 to L4 of document 02 (L5 and L6 add no rule), written
-//! twice in Rust, and the comparison of the proved store with both.
+//! The chart store of document 01 with requests L1 to L4 and L7 of document 02 (L5 and L6 add no rule),
+//! written twice in Rust, and the comparison of the proved store with both.
 //!
 //! `paper` is document 01 rendered as literally as possible; `fast` is an efficient store; `proved` is the
 //! proved one by its functions for C, and `public` the same by its public calls. The comparison gives all

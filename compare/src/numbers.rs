@@ -84,7 +84,8 @@ impl Garbage {
         if rng.chance(1, 3) {
             *stored = 4_096 - *waiting - rng.pick(&[0, 0, 1, 8, 40]);
         }
-        *begun = rng.below(300) as u64;
+        // No call of a store that is left alone finds so many visits begun.
+        *begun = if rng.chance(1, 4) { rng.pick(&[65_534, 65_535]) } else { rng.below(300) as u64 };
         *active = rng.below(17) as u64;
         *used = rng.below(65) as u64;
         self.visits.iter_mut().for_each(|number| *number %= 18);

@@ -5,6 +5,7 @@ pub mod conditions;
 pub mod openings;
 pub mod pages;
 mod whole_visits;
+mod wide_visits;
 mod writes;
 
 use crate::cover::Cover;
@@ -71,9 +72,7 @@ pub fn call(
         (number, _) => label(number, lent),
     };
     cover.answer(place(call), label);
-    if let Call::Change { visit, .. } | Call::Commit { visit } | Call::Abort { visit } = call {
-        cover.shape_if(visit > 255, "visit number above 255 in a call");
-    }
+    wide_visits::call(cover, call, answer, &before.ledger);
     if answer.number == 8 {
         let lacks_one = |rows| before.ledger.free() + 1 == before.ledger.reserve() + rows;
         match call {
@@ -110,7 +109,7 @@ fn done(cover: &mut Cover, call: Call, before: &Moment, after: &Moment) {
     match call {
         Call::Begin => {
             cover.shape_if(ledger.active.len() == 15, "begin of the sixteenth active visit");
-            cover.shape_if(ledger.begin_rows() == 254, "begin of visit 255");
+            cover.shape_if(ledger.begin_rows() == 255, "begin of visit 256");
             cover.shape_if(leaves_free(2), "begin with just enough free rows");
         }
         Call::Change { visit, cell, .. } => {
@@ -176,6 +175,7 @@ fn undo_rows(cover: &mut Cover, rows: &[Row], new: &[Row]) {
         let older = later.any(|row| row.kind == paper::BEGIN && row.visit == undo.visit);
         cover.shape_if(older, "undo of a change older than its holder");
         cover.shape_if(undo.change == i16::MIN, "undo of -32,768");
+        cover.shape_if(undo.visit > 255, "undo row of a visit above 255");
     }
 }
 
@@ -192,7 +192,7 @@ fn store(cover: &mut Cover, after: &Moment) {
     cover.shape_if(after.waiting == 64, "tail of 64 rows");
     cover.shape_if(ledger.active.len() == 16, "sixteen visits active");
     cover.shape_if(scopes.len() == 64, "sixty-four scopes in use");
-    cover.shape_if(begun == 255, "255 visits begun");
+    wide_visits::store(cover, ledger);
     cover.shape_if(ledger.free() == ledger.reserve(), "free rows equal to the reserve");
     let has_pair = |alike: fn(&Scope, &Scope) -> bool| {
         let later = |at: usize| &scopes[at + 1..];

@@ -83,22 +83,23 @@ pub const HAND_OVER_ALL: u8 = 7;
 /// "Every byte not named for a kind is zero. A constant table says, for each kind and byte, whether
 /// it may be other than zero." A line for each kind from 0 to 7; a dot is a byte that must be zero.
 /// K kind, V visit, R receiver, C cell, N the row's own number, U row undone, A amount of change.
-/// Kind 7 names no cell: "cell zero".
+/// Kind 7 names no cell: "cell zero". 02, L7: "Visits become 16-bit: byte 1 stays the low byte and byte 10
+/// holds the high one, byte 2 and byte 11 likewise for the receiver."
 const NAMED: [&[u8; ROW_BYTES]; 8] = [
     b"................",
-    b"KV..NN..........",
-    b"KV.CNN..AA......",
-    b"KVRCNN..........",
-    b"KV.CNNUUAA......",
-    b"KV..NN..........",
-    b"KV..NN..........",
-    b"KVR.NN..........",
+    b"KV..NN....V.....",
+    b"KV.CNN..AAV.....",
+    b"KVRCNN....VR....",
+    b"KV.CNNUUAAV.....",
+    b"KV..NN....V.....",
+    b"KV..NN....V.....",
+    b"KVR.NN....VR....",
 ];
 
 #[derive(Clone, Copy, PartialEq, Eq, Debug, Default)]
 pub struct Row {
     pub kind: u8,
-    /// "visit, 1 to 255 (kind 3: giver; kind 4: holder)"; kind 7: giver
+    /// "visit (kind 3: giver; kind 4: holder)"; kind 7: giver. 02, L7: "The limit is 65,535 visits."
     pub visit: u16,
     /// "receiver (kind 3)"; kind 7 too
     pub receiver: u16,
@@ -116,8 +117,8 @@ impl Row {
     pub fn read(bytes: &[u8]) -> Row {
         Row {
             kind: bytes[0],
-            visit: u16::from(bytes[1]),
-            receiver: u16::from(bytes[2]),
+            visit: u16::from_le_bytes([bytes[1], bytes[10]]),
+            receiver: u16::from_le_bytes([bytes[2], bytes[11]]),
             cell: bytes[3],
             number: u16::from_le_bytes([bytes[4], bytes[5]]),
             undone: u16::from_le_bytes([bytes[6], bytes[7]]),
@@ -128,8 +129,8 @@ impl Row {
     pub fn bytes(&self) -> [u8; ROW_BYTES] {
         let mut bytes = [0; ROW_BYTES];
         bytes[0] = self.kind;
-        bytes[1] = self.visit as u8;
-        bytes[2] = self.receiver as u8;
+        [bytes[1], bytes[10]] = self.visit.to_le_bytes();
+        [bytes[2], bytes[11]] = self.receiver.to_le_bytes();
         bytes[3] = self.cell;
         bytes[4..6].copy_from_slice(&self.number.to_le_bytes());
         bytes[6..8].copy_from_slice(&self.undone.to_le_bytes());
@@ -738,12 +739,12 @@ impl Paper {
     }
 
     /// "Begin returns the visit." 02, L4: "Begin shall force the log before it returns."
-    /// "begin | 6: 255 visits used; 7: 16 active; 8: free below need"
+    /// "begin | 6: .. visits used; 7: 16 active; 8: free below need", with the limit of 02, L7
     pub fn begin(&mut self) -> Outcome {
         self.check_lengths()?;
         self.check_open()?;
         let ledger = self.ledger();
-        refuse_if(ledger.begin_rows() == 255, 6)?;
+        refuse_if(ledger.begin_rows() == 65_535, 6)?;
         refuse_if(ledger.active.len() == 16, 7)?;
         refuse_if(ledger.free() < ledger.reserve() + 2, 8)?;
         let visit = ledger.begin_rows() as u16 + 1;

@@ -2,13 +2,14 @@
 //!
 //! "First a byte s, 1 to 32, then s entries of 8 bytes: fuse (4 bytes; 4294967295 is none), start of
 //! body (2, the file's first byte being 0), calls (2). Then the bodies, without gaps, in order, to
-//! the end. A call is 6 bytes: code, visit, receiver, cell or page, change (2)."
+//! the end." 02, L7: "Calls in the run file become 8 bytes, the two high bytes last": code, visit, receiver,
+//! cell or page, change (2), the visit's high byte, the receiver's.
 
 use crate::store::{Answer, Call, Store, Writes, CELLS};
 
 pub const MOST_BYTES: usize = 4_096;
 pub const ENTRY_BYTES: usize = 8;
-pub const CALL_BYTES: usize = 6;
+pub const CALL_BYTES: usize = 8;
 const NO_FUSE: u32 = 4_294_967_295;
 
 #[derive(Clone, PartialEq, Debug)]
@@ -49,8 +50,8 @@ pub fn parse(file: &[u8]) -> Option<Vec<Session>> {
 /// are zero." 02, L2, of the hand-over of a whole visit: "The run file gets code 9." A call is right if
 /// its bytes are those that it would be written with.
 fn parse_call(bytes: &[u8]) -> Option<Call> {
-    let visit = u16::from(bytes[1]);
-    let receiver = u16::from(bytes[2]);
+    let visit = u16::from_le_bytes([bytes[1], bytes[6]]);
+    let receiver = u16::from_le_bytes([bytes[2], bytes[7]]);
     let place = bytes[3];
     let amount = i16::from_le_bytes([bytes[4], bytes[5]]);
     let call = match bytes[0] {
@@ -69,23 +70,23 @@ fn parse_call(bytes: &[u8]) -> Option<Call> {
 }
 
 fn write_call(call: Call) -> [u8; CALL_BYTES] {
-    match call {
-        Call::Begin => [1, 0, 0, 0, 0, 0],
-        Call::Change { visit, cell, amount } => {
-            let amount = amount.to_le_bytes();
-            [2, visit as u8, 0, cell, amount[0], amount[1]]
-        }
-        Call::HandOver { giver, receiver, cell } => [3, giver as u8, receiver as u8, cell, 0, 0],
-        Call::Commit { visit } => [4, visit as u8, 0, 0, 0, 0],
-        Call::Abort { visit } => [5, visit as u8, 0, 0, 0, 0],
-        Call::FlushPage { page } => [6, 0, 0, page, 0, 0],
-        Call::Force => [7, 0, 0, 0, 0, 0],
-        Call::Read { cell } => [8, 0, 0, cell, 0, 0],
-        Call::HandOverAll { giver, receiver } => [9, giver as u8, receiver as u8, 0, 0, 0],
-    }
+    let (code, visit, receiver, place, amount) = match call {
+        Call::Begin => (1, 0, 0, 0, 0),
+        Call::Change { visit, cell, amount } => (2, visit, 0, cell, amount),
+        Call::HandOver { giver, receiver, cell } => (3, giver, receiver, cell, 0),
+        Call::Commit { visit } => (4, visit, 0, 0, 0),
+        Call::Abort { visit } => (5, visit, 0, 0, 0),
+        Call::FlushPage { page } => (6, 0, 0, page, 0),
+        Call::Force => (7, 0, 0, 0, 0),
+        Call::Read { cell } => (8, 0, 0, cell, 0),
+        Call::HandOverAll { giver, receiver } => (9, giver, receiver, 0, 0),
+    };
+    let ([v0, v1], [r0, r1]) = (visit.to_le_bytes(), receiver.to_le_bytes());
+    let [a0, a1] = i16::to_le_bytes(amount);
+    [code, v0, r0, place, a0, a1, v1, r1]
 }
 
-/// The run file with these sessions. Visits are written as bytes.
+/// The run file with these sessions.
 pub fn write(sessions: &[Session]) -> Vec<u8> {
     let mut file = vec![sessions.len() as u8];
     let mut start = 1 + ENTRY_BYTES * sessions.len();

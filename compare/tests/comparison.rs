@@ -45,6 +45,10 @@ enum Fault {
     Lent,
     /// It goes backward from the charts as they are stored.
     Forward,
+    /// It takes visits and receivers by their low bytes.
+    LowByte,
+    /// It answers 7 where 65,535 visits have begun.
+    UsedUp,
 }
 
 /// A store with a fault.
@@ -79,7 +83,8 @@ impl Store for Wrong {
         if self.fault == Fault::Altered && altered {
             return Answer { number: 5, value: 0, writes: Writes::NONE };
         }
-        let mut answer = self.store.call(call);
+        let made = if self.fault == Fault::LowByte { by_low_bytes(call) } else { call };
+        let mut answer = self.store.call(made);
         match (self.fault, call, answer.number) {
             (Fault::Waiting, Call::Change { .. }, 0) => answer.writes.rows += 1,
             (Fault::Begin, Call::Begin, 0) => answer.writes.rows -= 1,
@@ -89,6 +94,7 @@ impl Store for Wrong {
             (Fault::Read, Call::Read { .. }, 0) if answer.value != 0 => answer.value += 1,
             (Fault::Ram, _, 5) if state.open => self.byte = 1,
             (Fault::Refusal, _, 9) => self.byte = self.byte.wrapping_add(1),
+            (Fault::UsedUp, Call::Begin, 6) => answer.number = 7,
             (Fault::RefusedBegin, Call::Begin, 6..=8) => {
                 self.store.call(Call::Force);
             }
@@ -156,11 +162,27 @@ impl Store for Wrong {
     }
 }
 
+/// The call with the low bytes of its visits.
+fn by_low_bytes(call: Call) -> Call {
+    match call {
+        Call::Change { visit, cell, amount } => Call::Change { visit: visit % 256, cell, amount },
+        Call::HandOver { giver, receiver, cell } => {
+            Call::HandOver { giver: giver % 256, receiver: receiver % 256, cell }
+        }
+        Call::HandOverAll { giver, receiver } => {
+            Call::HandOverAll { giver: giver % 256, receiver: receiver % 256 }
+        }
+        Call::Commit { visit } => Call::Commit { visit: visit % 256 },
+        Call::Abort { visit } => Call::Abort { visit: visit % 256 },
+        other => other,
+    }
+}
+
 /// The first failure in the cases of a part, with the right store and the wrong one.
 fn found(wrong: Maker, play: fn(&mut Bench, u64) -> Result<(), Failure>) -> (Vec<Maker>, Failure) {
     let makers: Vec<Maker> = vec![|| Box::new(FastStore::new()), wrong];
     let mut bench = Bench::new(makers.clone());
-    let failure = (0..50).find_map(|seed| play(&mut bench, seed).err());
+    let failure = (0..200).find_map(|seed| play(&mut bench, seed).err());
     let failure = failure.expect("the wrong store was not found");
     assert!(failure.difference.text.contains("wrong"), "{}", failure.difference.text);
     (makers, failure)
@@ -196,6 +218,12 @@ fn a_refused_begin_that_forces_is_found() {
 #[test]
 fn a_5_with_power_to_go_on_is_found_in_altered_ram() {
     is_found(|| Wrong::boxed(Fault::Altered), garbage::play, "altered RAM");
+}
+
+#[test]
+fn visits_that_are_wrong_are_found() {
+    is_found(|| Wrong::boxed(Fault::LowByte), sessions::play, "paper answers");
+    is_found(|| Wrong::boxed(Fault::UsedUp), garbage::play, "65,535 visits");
 }
 
 #[test]

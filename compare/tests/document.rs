@@ -1,5 +1,6 @@
 //! The answers that documents 01 and 02 give: 01's twelve cases, those of its text and its run file's example,
-//! the counts of 02's request L1, the whole visits of L2, the begins of L4, and the costliest openings of L6.
+//! the counts of 02's request L1, the whole visits of L2, the begins of L4, the costliest openings of L6, and
+//! the visits of two bytes of L7.
 
 use compare::adapters::FastStore;
 use compare::arena::{Arena, Maker};
@@ -111,15 +112,15 @@ fn lines_of_the_example() {
 const WHOLE_VISIT: [&[u8]; 11] = [
     &[2],
     &[255, 255, 255, 255, 17, 0, 7, 0],
-    &[255, 255, 255, 255, 59, 0, 1, 0],
-    &[1, 0, 0, 0, 0, 0],
-    &[1, 0, 0, 0, 0, 0],
-    &[2, 1, 0, 0, 10, 0],
-    &[2, 1, 0, 7, 20, 0],
-    &[9, 1, 2, 0, 0, 0],
-    &[9, 1, 2, 0, 0, 0],
-    &[4, 2, 0, 0, 0, 0],
-    &[8, 0, 0, 7, 0, 0],
+    &[255, 255, 255, 255, 73, 0, 1, 0],
+    &[1, 0, 0, 0, 0, 0, 0, 0],
+    &[1, 0, 0, 0, 0, 0, 0, 0],
+    &[2, 1, 0, 0, 10, 0, 0, 0],
+    &[2, 1, 0, 7, 20, 0, 0, 0],
+    &[9, 1, 2, 0, 0, 0, 0, 0],
+    &[9, 1, 2, 0, 0, 0, 0, 0],
+    &[4, 2, 0, 0, 0, 0, 0, 0],
+    &[8, 0, 0, 7, 0, 0, 0, 0],
 ];
 
 const WHOLE_VISIT_LINES: &str = "1 0 0 0 0 0
@@ -147,7 +148,7 @@ fn lines_of_a_whole_visit() {
 #[test]
 fn codes_from_9_on_that_give_15() {
     let right = WHOLE_VISIT.concat();
-    let call = 17 + 4 * 6;
+    let call = 17 + 4 * 8;
     assert_eq!(right[call], 9);
     for (at, byte) in [(0, 10), (0, 11), (0, 255), (3, 1), (3, 7), (4, 1), (5, 1), (5, 128)] {
         let mut file = right.clone();
@@ -157,12 +158,12 @@ fn codes_from_9_on_that_give_15() {
     }
     // The same codes with all bytes zero.
     for code in [10, 11, 255] {
-        let file = [1, 0, 0, 0, 0, 9, 0, 1, 0, code, 0, 0, 0, 0, 0];
+        let file = [1, 0, 0, 0, 0, 9, 0, 1, 0, code, 0, 0, 0, 0, 0, 0, 0];
         assert_eq!(run(&file, &mut Paper::new()), "15\n", "code {code}");
         assert_eq!(relog(&file), "15\n", "code {code}");
     }
     // Visits that are not there are no fault of the file.
-    let file = [1, 0, 0, 0, 0, 9, 0, 1, 0, 9, 0, 255, 0, 0, 0];
+    let file = [1, 0, 0, 0, 0, 9, 0, 1, 0, 9, 0, 255, 0, 0, 0, 255, 255];
     assert_eq!(run(&file, &mut Paper::new()), "1 0 0 0 0 0\n1 1 9 0 0 0\n");
     assert_eq!(relog(&file), "1 0 0 0 0 0\n1 1 9 0 0 0\n");
 }
@@ -202,10 +203,17 @@ fn run_files_that_give_15() {
         altered(body, 0),
         altered(body, 10),
         altered(body + 1, 1),
-        altered(body + 14, 1),
-        altered(body + 22, 1),
-        altered(body + 26, 1),
-        altered(body + 37, 1),
+        altered(body + 18, 1),
+        altered(body + 28, 1),
+        altered(body + 34, 1),
+        altered(body + 49, 1),
+        // High bytes of visits and receivers that begin, change, abort and read do not use.
+        altered(body + 6, 1),
+        altered(body + 7, 1),
+        altered(body + 23, 1),
+        altered(body + 39, 1),
+        altered(body + 54, 1),
+        altered(body + 55, 1),
     ];
     for file in wrong {
         assert_eq!(run(&file, &mut Paper::new()), "15\n", "{file:?}");
@@ -215,11 +223,11 @@ fn run_files_that_give_15() {
 
 #[test]
 fn run_files_at_their_limits() {
-    // 1 + 8 + 681 * 6 = 4,095 bytes; 32 sessions without calls.
-    let longest = vec![Session { fuse: None, calls: vec![Call::Begin; 681] }];
+    // 1 + 8 + 510 * 8 = 4,089 bytes; 32 sessions without calls.
+    let longest = vec![Session { fuse: None, calls: vec![Call::Begin; 510] }];
     let lines = run(&write(&longest), &mut Paper::new());
     assert_eq!(relog(&write(&longest)), lines);
-    assert_eq!(lines.lines().count(), 682);
+    assert_eq!(lines.lines().count(), 511);
     assert!(lines.contains("\n1 16 0 16 1 0\n1 17 7 0 0 0\n"));
     let many = vec![Session { fuse: Some(0), calls: vec![] }; 32];
     let lines = run(&write(&many), &mut Paper::new());
@@ -227,23 +235,58 @@ fn run_files_at_their_limits() {
     assert!(lines.ends_with("\n32 0 0 0 0 0\n"));
 }
 
-/// A visit of 677 rows, all of them stored: the first by the begin, 64 with each of the rows 66, 130, .. 642,
-/// and the last 36 by the force. 676 undo rows and an abort row take it back, over two openings.
+/// A visit of 505 rows, all of them stored: the first by the begin, 64 with each of the rows 66, 130, .. 450,
+/// and the last 56 by the force. 504 undo rows and an abort row take it back, over two openings.
 #[test]
 fn counts_of_a_long_run_file() {
     let change = Call::Change { visit: 1, cell: 0, amount: 1 };
-    let calls = [vec![Call::Begin], vec![change; 676], vec![Call::Force]].concat();
+    let calls = [vec![Call::Begin], vec![change; 504], vec![Call::Force]].concat();
     let file = write(&[
         Session { fuse: None, calls },
-        Session { fuse: Some(500), calls: vec![] },
+        Session { fuse: Some(300), calls: vec![] },
         Session { fuse: None, calls: vec![] },
     ]);
     let mut lines = "1 0 0 0 0 0\n1 1 0 1 1 0\n".to_string();
-    for row in 2..=677 {
+    for row in 2..=505 {
         let stored = if row > 2 && row % 64 == 2 { 64 } else { 0 };
         lines += &format!("1 {row} 0 {row} {stored} 0\n");
     }
-    lines += "1 678 0 0 36 0\n2 0 5 0 500 0\n3 0 0 177 177 0\n";
+    lines += "1 506 0 0 56 0\n2 0 5 0 300 0\n3 0 0 205 205 0\n";
+    for store in stores().iter_mut() {
+        assert_eq!(run(&file, store.as_mut()), lines);
+    }
+    assert_eq!(relog(&file), lines);
+}
+
+/// Sixteen sessions of sixteen begins, each of which the next opening aborts, then two visits above 255.
+#[test]
+fn visits_above_255_in_a_run_file() {
+    let begins = Session { fuse: None, calls: vec![Call::Begin; 16] };
+    let calls = vec![
+        Call::Begin,
+        Call::Begin,
+        Call::Change { visit: 257, cell: 3, amount: -5 },
+        Call::Change { visit: 1, cell: 3, amount: -5 },
+        Call::HandOver { giver: 257, receiver: 258, cell: 3 },
+        Call::Abort { visit: 257 },
+        Call::Commit { visit: 258 },
+        Call::Read { cell: 3 },
+    ];
+    let file = write(&[vec![begins; 16], vec![Session { fuse: None, calls }]].concat());
+    // Visit 257, and the bytes of 258 in the hand-over: the low ones at 1 and 2, the high ones at 6 and 7.
+    assert_eq!(file[file.len() - 32..][..8], [3, 1, 2, 3, 0, 0, 1, 1]);
+    let last = "17 0 0 16 16 0
+17 1 0 257 1 0
+17 2 0 258 1 0
+17 3 0 515 0 0
+17 4 9 0 0 0
+17 5 0 516 0 0
+17 6 0 517 0 0
+17 7 0 518 4 0
+17 8 0 -5 0 0
+";
+    let lines = run(&file, &mut Paper::new());
+    assert!(lines.ends_with(last), "{lines}");
     for store in stores().iter_mut() {
         assert_eq!(run(&file, store.as_mut()), lines);
     }

@@ -154,7 +154,23 @@ int main(void) {
     expect("visit 6 commits: both cells last", chart_commit(s, 6), CHART_DONE, 21);
     expect("read cell 7", chart_read(s, 7), CHART_DONE, 70150);
     expect("read cell 8", chart_read(s, 8), CHART_DONE, 60);
-    expect_stored(8, 0); /* the abort row of visit 4, each begin's row, and rows 17 to 21 by the commit */
+
+    /* A busy clinic: visit 257 has a high byte, in byte 10 of its rows. */
+    for (uint16_t visit = 7; visit <= 256; visit++) {
+        chart_answer begun = chart_begin(s), ended = chart_commit(s, visit);
+        if (chart_value(begun) != visit || chart_number(ended) != CHART_DONE) {
+            puts("   <- one of 250 visits did not begin and commit");
+            failures++;
+        }
+        rows_stored += chart_rows(begun) + chart_rows(ended);
+    }
+    expect("250 visits later, begin", chart_begin(s), CHART_DONE, 257);
+    expect("visit 257 commits", chart_commit(s, 257), CHART_DONE, 523);
+    if (stored_log[CHART_ROW_LENGTH * 521 + 1] != 1 || stored_log[CHART_ROW_LENGTH * 521 + 10] != 1) {
+        puts("   <- row 522 has not the two bytes of visit 257");
+        failures++;
+    }
+    expect_stored(510, 0); /* the abort row of visit 4, each begin's row, rows 17 to 21 by the commit of visit 6, and two rows for each of the later visits */
 
     stored_log[CHART_ROW_LENGTH * 2 + 1] ^= 1;
     expect("open a log whose row 3 was altered", chart_open(s, CHART_NO_FUSE), CHART_BAD_ROW, 3);

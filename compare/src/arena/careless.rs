@@ -6,6 +6,7 @@
 //! - In all other RAM a fuse decides nothing but where power fails. The same call without a fuse says
 //!   which writes it makes: if the fuse has as many, the call answers and leaves the same and the fuse has
 //!   so many less; if it has fewer, just these land, the call answers 5 and every byte of RAM is 0.
+//! - There a begin answers 6 where 65,535 visits have begun, and nowhere else (02, L7).
 //! - A commit or an abort may find tables that ask for more rows than the log has. It answers 5 and leaves
 //!   RAM as power does, with a fuse or without.
 //! - An answer counts the rows and pages that the call has stored, and no stored byte outside of them has
@@ -40,6 +41,8 @@ impl Arena<'_> {
                     self.cover.altered_if(is_done && rows > 0, other.name(), "done, rows counted");
                     self.cover.altered_if(!is_done && rows > 0, other.name(), "5, rows counted");
                     self.cover.altered_if(pages > 0, other.name(), "done, a page counted");
+                    let last = is_done && *call == Call::Begin && answer.value == 65_535;
+                    self.cover.altered_if(last, other.name(), "done, visit 65,535 begun");
                     self.calls += 1;
                 }
             }

@@ -30,6 +30,10 @@ impl Made {
     /// The store is open and its counters are within their limits. `whole` is the same store after the same
     /// call without a fuse, which answered `without_fuse`; `store` is the one with the fuse.
     pub fn judged_by(&self, without_fuse: Answer, whole: &dyn Store, store: &dyn Store) -> Ending {
+        let used_up = self.call == Call::Begin && self.state.begun == 65_535;
+        if used_up != (without_fuse.number == 6) {
+            return Err("a begin answers 6 where 65,535 visits have begun, and nowhere else".into());
+        }
         match without_fuse.number {
             0 => {
                 let pages = usize::from(matches!(self.call, Call::FlushPage { .. }));
@@ -52,6 +56,7 @@ impl Made {
                 let left = self.state.fuse.map_or(rows, |left| left as usize);
                 self.cut(whole, rows.min(left)).map(|()| "5, the log is full")
             }
+            6 => self.refused_by(6).map(|()| "refused by 6, visits used up"),
             number => self.refused_by(number).map(|()| "refused by another number"),
         }
     }

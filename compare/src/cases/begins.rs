@@ -93,19 +93,8 @@ pub const BEGINS: [Case; 8] = [
         },
     },
     Case {
-        name: "begin: refused by 6, 7 and 8 while 64 rows wait",
+        name: "begin: refused by 7 and 8 while 64 rows wait",
         play: |a| {
-            // Visit 1 changes cell 0. Of the others each is aborted, and its abort row waits for the next begin.
-            formatted(a, Some(508))?;
-            a.expect_line(begin(), "0 1 1 0")?;
-            for visit in 2..=255 {
-                let rows = if visit == 2 { 1 } else { 2 };
-                a.expect_line(begin(), &format!("0 {visit} {rows} 0"))?;
-                a.expect_line(abort(visit), &format!("0 {} 0 0", 2 * visit - 1))?;
-            }
-            changes(a, 510..=572)?;
-            a.expect_line(begin(), "6 0 0 0")?;
-            a.expect_line(force(), "5 0 0 0")?;
             begun(a, Some(16), 16)?;
             changes(a, 17..=80)?;
             a.expect_line(begin(), "7 0 0 0")?;

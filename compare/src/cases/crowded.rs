@@ -1,6 +1,7 @@
-//! Stores that are at several limits of document 01 at once: 255 visits used, 16 active, 64 scopes in
-//! use, no row free beyond the reserve. There every call is made with arguments at their limits, so that
-//! several conditions of the table of refusals hold at once, and the order of the checks shows.
+//! Stores that are at several limits of document 01 at once: 16 visits active, 64 scopes in use, no row free
+//! beyond the reserve, some of them after many visits. There every call is made with arguments at their
+//! limits, so that several conditions of the table of refusals hold at once, and the order of the checks
+//! shows.
 
 use super::document::{change_row, row};
 use super::sessions::{any_call, formatted, lend};
@@ -24,18 +25,18 @@ struct Crowd {
     rows: usize,
 }
 
-/// Each limit is reached by some of the crowds alone and by some with others: visits used, visits active,
-/// scopes in use, and rows free beyond the reserve.
+/// Each limit is reached by some of the crowds alone and by some with others: visits active, scopes in use,
+/// and rows free beyond the reserve. Some visits that are active have numbers above 255.
 fn crowd(rng: &mut Rng, seed: u64) -> Crowd {
     let few = rng.pick(&[2, 4, 15]);
     let (used, active, scopes, beyond_reserve) = [
         (120, few, few, 2),
-        (254, few, 63, 2),
-        (255, 16, 64, 1),
+        (300, few, 63, 2),
+        (1_000, 16, 64, 1),
         (120, 16, 64, 0),
-        (120, few, 64, 1),
-        (255, 16, 63, 3_000),
-        (254, few, 64, 0),
+        (258, few, 64, 1),
+        (264, 16, 63, 3_000),
+        (600, few, 64, 0),
         (240, few, few, 1),
     ][seed as usize % 8];
     let ended = used - active;
@@ -87,11 +88,12 @@ fn gather(rng: &mut Rng, arena: &mut Arena, crowd: &Crowd) -> Outcome<()> {
     Ok(())
 }
 
-/// A call of visits that are active, have ended, have not begun or are beyond a byte, on cells and pages
-/// that are held, not held, the last, or beyond it. `whole` says whether it may hand over a whole visit.
+/// A call of visits that are active, have ended, have not begun or differ from an active one by the high
+/// byte alone, on cells and pages that are held, not held, the last, or beyond it. `whole` says whether it
+/// may hand over a whole visit.
 fn limit_call(rng: &mut Rng, crowd: &Crowd, whole: bool) -> Call {
     let (first, last) = (crowd.ended + 1, crowd.ended + crowd.active);
-    let mut visit = || rng.pick(&[first, first, last, last, first + 1, 0, 1, last + 1, 256 + first]);
+    let mut visit = || rng.pick(&[first, first, last, last, first + 1, 0, 1, last + 1, first ^ 256]);
     let (visit, receiver) = (visit(), visit());
     let cell = rng.pick(&[0, 0, 1, 100, 223, 224, 255]);
     match rng.below(if whole { 14 } else { 11 }) {

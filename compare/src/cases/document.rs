@@ -1,5 +1,6 @@
 //! Cases with the answers that documents 01 and 02 give: the twelve of 01's list, those of its text, the
-//! counts of 02's request L1, the whole visits of L2, the begins of L4, and the costliest openings of L6.
+//! counts of 02's request L1, the whole visits of L2, the begins of L4, the costliest openings of L6, and the
+//! visits of two bytes of L7.
 
 use super::begins::BEGINS;
 use super::costliest::COSTLIEST;
@@ -8,6 +9,7 @@ use super::text::TEXT;
 use super::twelve::TWELVE;
 use super::whole_visit_rows::WHOLE_VISIT_ROWS;
 use super::whole_visits::WHOLE_VISITS;
+use super::wide_visits::WIDE_VISITS;
 use crate::arena::{Arena, Outcome};
 use crate::bench::{Bench, Failure};
 use crate::paper::{Row, CHANGE, HAND_OVER, HAND_OVER_ALL, UNDO};
@@ -19,8 +21,8 @@ pub struct Case {
     pub play: fn(&mut Arena) -> Outcome<()>,
 }
 
-const LISTS: [&[Case]; 7] =
-    [&TWELVE, &TEXT, &COUNTS, &WHOLE_VISITS, &WHOLE_VISIT_ROWS, &BEGINS, &COSTLIEST];
+const LISTS: [&[Case]; 8] =
+    [&TWELVE, &TEXT, &COUNTS, &WHOLE_VISITS, &WHOLE_VISIT_ROWS, &BEGINS, &COSTLIEST, &WIDE_VISITS];
 
 pub const COUNT: u64 = {
     let (mut count, mut at) = (0, 0);

@@ -1,4 +1,5 @@
-//! Random sessions that go to the limits of document 01: a full log, 255 visits, 64 scopes.
+//! Random sessions that go to the limits of document 01, a full log and 64 scopes, and sessions of several
+//! hundred visits (document 02, request L7).
 
 use super::sessions::{formatted, fuse, habits, next_call, session, work, Habits};
 use crate::bench::{Bench, Failure};
@@ -45,8 +46,9 @@ pub fn full_log(bench: &mut Bench, seed: u64) -> Result<(), Failure> {
     Ok(())
 }
 
-/// Short visits, one after the other and side by side, until there are no more numbers.
-pub fn all_visits(bench: &mut Bench, seed: u64) -> Result<(), Failure> {
+/// Short visits, one after the other and side by side, so many that their numbers have high bytes, and cuts
+/// among them.
+pub fn many_visits(bench: &mut Bench, seed: u64) -> Result<(), Failure> {
     let rng = &mut Rng::new(seed);
     bench.case(|arena| {
         arena.step(Step::Format(formatted(rng)))?;
@@ -56,10 +58,11 @@ pub fn all_visits(bench: &mut Bench, seed: u64) -> Result<(), Failure> {
             session(rng, arena, &habits, None, 500)?;
             habits.weights = [30, 10, 10, 4, 6, 6, 1, 1, 1];
         }
-        for _ in 0..3 {
-            let fuse = fuse(rng);
+        for _ in 0..12 {
+            let fuse = Some(rng.below(60) as u32);
             session(rng, arena, &habits, fuse, 60)?;
         }
+        arena.step(Step::Open(None))?;
         Ok(())
     })?;
     Ok(())

@@ -7,7 +7,7 @@ use super::sessions::{amount, formatted, fuse, habits, held_cell, holding_visit,
 use crate::arena::{Arena, Outcome};
 use crate::bench::{Bench, Failure};
 use crate::paper::{self, is_allowed, Ledger, Row};
-use crate::paper::{BEGIN, CHANGE, HAND_OVER, HAND_OVER_ALL, UNDO};
+use crate::paper::{BEGIN, CHANGE, COMMIT, HAND_OVER, HAND_OVER_ALL, UNDO};
 use crate::prng::Rng;
 use crate::steps::Step;
 
@@ -110,6 +110,15 @@ struct Made {
     refused: Vec<(usize, [u8; 16])>,
 }
 
+impl Made {
+    /// Adds a row that has a visit alone.
+    fn add(&mut self, kind: u8, visit: u16) {
+        let row = Row { kind, visit, number: self.rows.len() as u16 + 1, ..Row::default() };
+        self.rows.push(row.bytes());
+        self.ledger.add(row);
+    }
+}
+
 /// Adds allowed rows to the log until it has this length or nothing fits any more.
 fn grow(rng: &mut Rng, made: &mut Made, taste: &Taste, habits: &Habits, length: usize) {
     let mut in_vain = 0;
@@ -198,14 +207,29 @@ fn try_refused(bench: &mut Bench, before: &[[u8; 16]], row: [u8; 16]) -> Result<
 pub fn make(seed: u64, length: usize) -> Vec<[u8; 16]> {
     let rng = &mut Rng::new(seed);
     let habits = habits(rng);
-    made(rng, &habits, length).rows
+    made(rng, Made::default(), &habits, length).rows
 }
 
-fn made(rng: &mut Rng, habits: &Habits, length: usize) -> Made {
-    let mut made = Made::default();
+/// Up to so many rows more.
+fn made(rng: &mut Rng, mut made: Made, habits: &Habits, length: usize) -> Made {
+    let length = made.rows.len() + length;
     for _ in 0..3 {
         let taste = taste(rng);
         grow(rng, &mut made, &taste, habits, length);
+    }
+    made
+}
+
+/// Visits that have ended, so many that the numbers of the next ones have high bytes. At times the first one
+/// has not ended: visit 257 has its low byte.
+fn many_visits(rng: &mut Rng) -> Made {
+    let mut made = Made::default();
+    let first = rng.pick(&[1, 2]);
+    for visit in 1..=rng.pick(&[254, 255, 256, 300]) {
+        made.add(BEGIN, visit);
+        if visit >= first {
+            made.add(COMMIT, visit);
+        }
     }
     made
 }
@@ -214,7 +238,8 @@ pub fn play(bench: &mut Bench, seed: u64) -> Result<(), Failure> {
     let rng = &mut Rng::new(seed);
     let habits = habits(rng);
     let length = 1 + rng.below(160);
-    let made = made(rng, &habits, length);
+    let before = if rng.chance(1, 12) { many_visits(rng) } else { Made::default() };
+    let made = made(rng, before, &habits, length);
     open_and_try(bench, rng, &made, &habits, 6)
 }
 

@@ -34,7 +34,7 @@ pub fn play(bench: &mut Bench, seed: u64) -> Result<(), Failure> {
     Ok(())
 }
 
-/// Sessions with visits that fit a byte, played as steps too.
+/// Sessions, played as steps too.
 fn sessions(rng: &mut Rng, arena: &mut Arena) -> Outcome<Vec<Session>> {
     let habits = habits(rng);
     let mut sessions = Vec::new();
@@ -44,7 +44,7 @@ fn sessions(rng: &mut Rng, arena: &mut Arena) -> Outcome<Vec<Session>> {
         let mut calls = Vec::new();
         arena.step(Step::Open(fuse))?;
         for _ in 0..rng.below(40) {
-            let call = in_bytes(next_call(rng, &habits, arena.ledger()));
+            let call = next_call(rng, &habits, arena.ledger());
             arena.step(Step::Call(call))?;
             calls.push(call);
         }
@@ -53,30 +53,16 @@ fn sessions(rng: &mut Rng, arena: &mut Arena) -> Outcome<Vec<Session>> {
     Ok(sessions)
 }
 
-/// The call with visits as the run file can have them.
-fn in_bytes(call: Call) -> Call {
-    match call {
-        Call::Change { visit, cell, amount } => Call::Change { visit: visit % 256, cell, amount },
-        Call::HandOver { giver, receiver, cell } => {
-            Call::HandOver { giver: giver % 256, receiver: receiver % 256, cell }
-        }
-        Call::HandOverAll { giver, receiver } => {
-            Call::HandOverAll { giver: giver % 256, receiver: receiver % 256 }
-        }
-        Call::Commit { visit } => Call::Commit { visit: visit % 256 },
-        Call::Abort { visit } => Call::Abort { visit: visit % 256 },
-        other => other,
-    }
-}
-
 /// What was met with a file that gives these lines. Of code 9 it is met that a whole visit was handed over,
-/// and that a file was refused for nothing but a cell, or a change, in a call with code 9.
+/// and that a file was refused for nothing but a cell, or a change, in a call with code 9; of any code, that it
+/// was refused for nothing but high bytes of a visit or a receiver.
 fn label(file: &[u8], lines: &str) -> &'static str {
     match parse(file) {
         Some(sessions) if hands_over_all(&sessions, lines) => "run with code 9",
         Some(_) => "run",
-        None if is_right_without(file, 3..4) => "15 for a cell of code 9",
-        None if is_right_without(file, 4..6) => "15 for a change of code 9",
+        None if is_right_without(file, &calls_with_code_9(file), 3..4) => "15 for a cell of code 9",
+        None if is_right_without(file, &calls_with_code_9(file), 4..6) => "15 for a change of code 9",
+        None if is_right_without(file, &calls(file), 6..8) => "15 for an unused high byte",
         None => "15",
     }
 }
@@ -91,26 +77,30 @@ fn hands_over_all(sessions: &[Session], lines: &str) -> bool {
     })
 }
 
-/// Whether the file is right once these bytes of each call with code 9 are zero.
-fn is_right_without(file: &[u8], bytes: Range<usize>) -> bool {
+/// Whether the file is right once these bytes of each of these calls are zero.
+fn is_right_without(file: &[u8], calls: &[usize], bytes: Range<usize>) -> bool {
     let mut file = file.to_vec();
-    for call in calls_with_code_9(&file) {
-        file[call..][bytes.clone()].fill(0);
+    for call in calls {
+        file[*call..][bytes.clone()].fill(0);
     }
     parse(&file).is_some()
 }
 
-/// Where the calls with code 9 start, if the entries of the sessions are right.
-fn calls_with_code_9(file: &[u8]) -> Vec<usize> {
+/// Where the calls start, if the entries of the sessions are right.
+fn calls(file: &[u8]) -> Vec<usize> {
     let sessions = file.first().copied().map_or(0, usize::from);
     let calls = (1 + ENTRY_BYTES * sessions..).step_by(CALL_BYTES);
-    calls.take_while(|call| call + CALL_BYTES <= file.len()).filter(|call| file[*call] == 9).collect()
+    calls.take_while(|call| call + CALL_BYTES <= file.len()).collect()
+}
+
+fn calls_with_code_9(file: &[u8]) -> Vec<usize> {
+    calls(file).into_iter().filter(|call| file[*call] == 9).collect()
 }
 
 fn alter(rng: &mut Rng, file: &mut Vec<u8>) {
     let at = rng.below(file.len().max(1));
-    let with_code_9 = calls_with_code_9(file);
-    match rng.below(7) {
+    let (calls, with_code_9) = (calls(file), calls_with_code_9(file));
+    match rng.below(8) {
         0 => file.truncate(at),
         1 => file.push(rng.byte()),
         2 => file.resize(4_097, 0),
@@ -123,6 +113,10 @@ fn alter(rng: &mut Rng, file: &mut Vec<u8>) {
         5 if !with_code_9.is_empty() => {
             let call = rng.pick(&with_code_9);
             file[call + rng.pick(&[3, 4, 5])] ^= 1 << rng.below(8);
+        }
+        6 if !calls.is_empty() => {
+            let call = rng.pick(&calls);
+            file[call + rng.pick(&[6, 7])] ^= 1 << rng.below(8);
         }
         _ => file[at] = rng.byte(),
     }

@@ -115,7 +115,9 @@ fn any_visit(rng: &mut Rng, habits: &Habits, ledger: &Ledger) -> u16 {
     if ledger.active.is_empty() || is_odd {
         let near = rng.below(20) as u16;
         let far = rng.draw() as u16;
-        return rng.pick(&[0, near, 255, 256 + near, far]);
+        // Another visit than an active one by its high byte alone.
+        let alike = ledger.active.first().map_or(near, |visit| visit ^ 256);
+        return rng.pick(&[0, near, 255, 256 + near, alike, far]);
     }
     rng.pick(&ledger.active)
 }

@@ -7,7 +7,7 @@ use crate::paper::{ABORT, BEGIN, COMMIT};
 use crate::steps::*;
 use crate::store::{Buffer, CELLS};
 
-pub const TEXT: [Case; 33] = [
+pub const TEXT: [Case; 32] = [
     Case {
         name: "the run file's example with fuse 3",
         play: |a| {
@@ -284,24 +284,6 @@ pub const TEXT: [Case; 33] = [
             a.expect(hand_over(1, 2, 0), 8, 0)?;
             a.expect(abort(2), 0, 2_050)?;
             a.expect(abort(1), 0, 4_096)
-        },
-    },
-    Case {
-        name: "255 visits used and sixteen active: 6",
-        play: |a| {
-            ready(a, 0)?;
-            for visit in 1..=239 {
-                a.expect(begin(), 0, visit)?;
-                a.expect(commit(visit as u16), 0, 2 * visit)?;
-            }
-            for visit in 240..=255 {
-                a.expect(begin(), 0, visit)?;
-            }
-            a.expect(begin(), 6, 0)?;
-            a.expect(open(Some(0)), 5, 0)?;
-            a.expect(begin(), 5, 0)?;
-            a.expect(open(None), 0, 16)?;
-            a.expect(begin(), 6, 0)
         },
     },
     Case {

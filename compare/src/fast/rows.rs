@@ -14,13 +14,13 @@ pub const HAND_OVER_ALL: u8 = 7;
 /// For each kind, bit b is set if byte b may be other than zero.
 const NAMED: [u16; 8] = [
     0,
-    0b00_0011_0011,
-    0b11_0011_1011,
-    0b00_0011_1111,
-    0b11_1111_1011,
-    0b00_0011_0011,
-    0b00_0011_0011,
-    0b00_0011_0111,
+    0b0100_0011_0011,
+    0b0111_0011_1011,
+    0b1100_0011_1111,
+    0b0111_1111_1011,
+    0b0100_0011_0011,
+    0b0100_0011_0011,
+    0b1100_0011_0111,
 ];
 
 #[derive(Clone, Copy, Default)]
@@ -38,8 +38,8 @@ impl Row {
     pub fn decode(b: &[u8; ROW]) -> Row {
         Row {
             kind: b[0],
-            visit: u16::from(b[1]),
-            receiver: u16::from(b[2]),
+            visit: u16::from_le_bytes([b[1], b[10]]),
+            receiver: u16::from_le_bytes([b[2], b[11]]),
             cell: b[3],
             number: u16::from_le_bytes([b[4], b[5]]),
             undone: u16::from_le_bytes([b[6], b[7]]),
@@ -51,8 +51,9 @@ impl Row {
         let [n0, n1] = self.number.to_le_bytes();
         let [u0, u1] = self.undone.to_le_bytes();
         let [c0, c1] = self.change.to_le_bytes();
-        let (visit, receiver) = (self.visit as u8, self.receiver as u8);
-        [self.kind, visit, receiver, self.cell, n0, n1, u0, u1, c0, c1, 0, 0, 0, 0, 0, 0]
+        let [v0, v1] = self.visit.to_le_bytes();
+        let [r0, r1] = self.receiver.to_le_bytes();
+        [self.kind, v0, r0, self.cell, n0, n1, u0, u1, c0, c1, v1, r1, 0, 0, 0, 0]
     }
 
     pub fn is_change_or_undo(&self) -> bool {

@@ -10,7 +10,7 @@ use crate::store::Scope;
 
 pub const MOST_ACTIVE: usize = 16;
 pub const MOST_SCOPES: usize = 64;
-pub const MOST_VISITS: u16 = 255;
+pub const MOST_VISITS: u16 = 65_535;
 
 #[derive(Clone, Copy, PartialEq, Eq, Debug)]
 pub struct Tables {

@@ -2,7 +2,7 @@
 //! judged by itself, on the paper's store before the call.
 
 use super::Moment;
-use crate::paper::{check_log, check_pages, rows_of, Ledger, BEGIN};
+use crate::paper::{check_log, check_pages, rows_of, Ledger};
 use crate::store::{Call, Lengths, CELLS, RIGHT};
 
 /// The labels of the conditions that hold, in checking order. A label begins with the number.
@@ -27,7 +27,7 @@ pub fn of_opening(lent: Lengths, log: &[u8], charts: &[u8], fuse: Option<u32>) -
     holding(&[(lent != RIGHT, "1"), (checked.is_err(), "3"), (bad_page, "4"), (is_cut, "5")])
 }
 
-/// Of a call. `log` is the stored log, by which the visits of a closed store are counted.
+/// Of a call. `log` is the stored log, by which the active visits of a closed store are counted.
 pub fn of_call(call: Call, lent: Lengths, before: &Moment, log: &[u8]) -> Conditions {
     let ledger = &before.ledger;
     let closed = !before.open;
@@ -35,9 +35,10 @@ pub fn of_call(call: Call, lent: Lengths, before: &Moment, log: &[u8]) -> Condit
     let lacks = |rows| ledger.free() < ledger.reserve() + rows;
     let mut conditions = holding(&[(lent != RIGHT, "1"), (closed, "5")]);
     conditions.extend(match call {
+        // 02, L7: "refusal 6 never occurs any more".
         Call::Begin => {
-            let begun = if closed { begin_rows(log) } else { ledger.begin_rows() };
-            holding(&[(begun == 255, "6"), (ledger.active.len() == 16, "7"), (lacks(2), "8")])
+            let active = if closed { active_visits(log) } else { ledger.active.len() };
+            holding(&[(active == 16, "7"), (lacks(2), "8")])
         }
         Call::Change { visit, cell, .. } => {
             let used_up = before.scopes.len() == 64 && ledger.starts_scope(visit, cell);
@@ -66,6 +67,7 @@ pub fn of_call(call: Call, lent: Lengths, before: &Moment, log: &[u8]) -> Condit
     conditions
 }
 
-fn begin_rows(log: &[u8]) -> usize {
-    rows_of(log).iter().filter(|row| row.kind == BEGIN).count()
+/// Of a log that is allowed.
+fn active_visits(log: &[u8]) -> usize {
+    check_log(log).map_or(0, |ledger| ledger.active.len())
 }

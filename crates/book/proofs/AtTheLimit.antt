@@ -79,12 +79,8 @@ pub begin-16 : then (session (replicate 15 Call.begin)) Call.begin ≡ done (pos
 unfolding computes
 begin-16 = refl
 
--- 01: "6: 255 visits used"
-pub begin-255 : asked (committedVisits 254) Call.begin ≡ done (pos 255)
-unfolding computes
-begin-255 = refl
-
-pub begin-256 : asked (committedVisits 255) Call.begin ≡ refusedBy 6
+-- 02, L7: "Visits become 16-bit": the first visit whose number has no place in a byte
+pub begin-256 : asked (committedVisits 255) Call.begin ≡ done (pos 256)
 unfolding computes
 begin-256 = refl
 

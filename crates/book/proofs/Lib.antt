@@ -28,6 +28,7 @@ pub mod Sound
 pub mod Openings
 pub mod Claims
 pub mod Begins
+pub mod Visits
 pub mod Writes
 pub mod SessionWrites
 pub mod Reopened
@@ -44,6 +45,7 @@ pub mod Numbers
 pub mod Blocks
 pub mod RowBytes
 pub mod LogBytes
+pub mod OldLogs
 pub mod Reading
 pub mod Marks
 pub mod PageAfterRows
@@ -63,6 +65,7 @@ pub mod Example
 pub mod FullLogs
 pub mod RowRules
 pub mod AtTheLimit
+pub mod VisitsUsedUp
 pub mod TwoViolations
 pub mod HandOvers
 pub mod TwoOrders

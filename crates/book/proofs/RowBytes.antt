@@ -14,7 +14,7 @@ use Rattle.book.specs.Lists.{eqBytes, tabulate}
 use Rattle.book.specs.Limits.{visitLimit, kindLimit}
 use Rattle.book.specs.Rows.{Row, isVisit, isCell, isAmount, isRowNumber, fits}
 use Rattle.book.specs.Numbers.{le, number, bitsOf, signed}
-use Rattle.book.specs.RowBytes.{kindOf, mayBeSet, mayBe, rowBytes, rowOfKind, rowOf, isRowBytes}
+use Rattle.book.specs.RowBytes.{kindOf, mayBeSet, mayBe, rowBytes, rowOfKind, pair, rowOf, isRowBytes}
 use Rattle.book.proofs.Lists.{and-i, and-l, and-r, clash}
 use Rattle.book.proofs.Blocks.{listed}
 use Rattle.book.proofs.Numbers.{two-bytes, two-back, two-below, signed-bits, bits-signed, amount-bits}
@@ -78,19 +78,25 @@ row-own n (Row.handOverAll g r) h = two-bytes n h
 amount-back : (a : ℤ) → isAmount a ≡ true → signed 16 (bitsOf 16 a % 256 + 256 * (bitsOf 16 a / 256 % 256 + 256 * 0)) ≡ a
 amount-back a e = let k = signed-bits 16 a (amount-bits a e) in rw (two-bytes (bitsOf 16 a) (k .1)) (k .0)
 
+visit-back : (v : ℕ) → isVisit v ≡ true → v % 256 + 256 * (v / 256 % 256) ≡ v
+visit-back v e = let h = leb-true v visitLimit (and-r (leb 1 v) _ e) in omega arith
+
 pub row-back : (n : ℕ) (r : Row) → fits r ≡ true → rowOf (rowBytes n r) ≡ r
 unfolding rowBytes fits
-row-back n (Row.begin v) e = ap Row.begin (omega arith)
-row-back n (Row.change v c a) e = rw (add-zero v, add-zero c) (ap (Row.change v c) (amount-back a (and-r (isVisit v && isCell c) _ e)))
-row-back n (Row.handOver g r c) e = rw (add-zero g, add-zero r, add-zero c)
+row-back n (Row.begin v) e = rw (visit-back v e)
+row-back n (Row.change v c a) e =
+    rw (visit-back v (and-l _ _ (and-l (isVisit v && isCell c) _ e)), add-zero c) (ap (Row.change v c) (amount-back a (and-r (isVisit v && isCell c) _ e)))
+row-back n (Row.handOver g r c) e =
+    let both = and-l (isVisit g && isVisit r) _ e in rw (visit-back g (and-l _ _ both), visit-back r (and-r (isVisit g) _ both), add-zero c)
 row-back n (Row.undo h c u a) e =
     let num : isRowNumber u ≡ true = search (and-l, and-r) in
+    let vis : isVisit h ≡ true = search (and-l, and-r) in
     let low = leb-true u 4096 (and-r (leb 1 u) _ num) in
-    rw (add-zero h, add-zero c)
+    rw (visit-back h vis, add-zero c)
     (ap₂ (λ (x : ℕ) (z : ℤ). Row.undo h c x z) (two-bytes u (omega arith)) (amount-back a (and-r (isVisit h && isCell c && isRowNumber u) _ e)))
-row-back n (Row.commit v) e = ap Row.commit (omega arith)
-row-back n (Row.abort v) e = ap Row.abort (omega arith)
-row-back n (Row.handOverAll g r) e = rw (add-zero g, add-zero r)
+row-back n (Row.commit v) e = rw (visit-back v e)
+row-back n (Row.abort v) e = rw (visit-back v e)
+row-back n (Row.handOverAll g r) e = rw (visit-back g (and-l _ _ e), visit-back r (and-r (isVisit g) _ e))
 
 -- a row's own bytes are a row's bytes
 pub row-bytes : (n : ℕ) (r : Row) → fits r ≡ true → isRowBytes n (rowBytes n r) ≡ true
@@ -176,9 +182,9 @@ table-bytes n bs long byte t =
     b : ℕ → ℕ
     b i = getD bs i 0
 
-    same : (k v r c : ℕ) (N U A Z : List ℕ) → k ≡ b 0 → v ≡ b 1 → r ≡ b 2 → c ≡ b 3 → N ≡ b 4 ∷ b 5 ∷ [] → U ≡ b 6 ∷ b 7 ∷ [] → A ≡ b 8 ∷ b 9 ∷ []
-        → Z ≡ b 10 ∷ b 11 ∷ b 12 ∷ b 13 ∷ b 14 ∷ b 15 ∷ [] → k ∷ v ∷ r ∷ c ∷ N ++ U ++ A ++ Z ≡ tabulate 16 0 b
-    same k v r c N U A Z ek ev er ec eN eU eA eZ = rw (ek, ev, er, ec, eN, eU, eA, eZ)
+    same : (k v r c w q : ℕ) (N U A Z : List ℕ) → k ≡ b 0 → v ≡ b 1 → r ≡ b 2 → c ≡ b 3 → N ≡ b 4 ∷ b 5 ∷ [] → U ≡ b 6 ∷ b 7 ∷ [] → A ≡ b 8 ∷ b 9 ∷ []
+        → w ≡ b 10 → q ≡ b 11 → Z ≡ b 12 ∷ b 13 ∷ b 14 ∷ b 15 ∷ [] → k ∷ v ∷ r ∷ c ∷ N ++ U ++ A ++ (w ∷ q ∷ Z) ≡ tabulate 16 0 b
+    same k v r c w q N U A Z ek ev er ec eN eU eA ew eq eZ = rw (ek, ev, er, ec, eN, eU, eA, ew, eq, eZ)
 
     two : (i : ℕ) → le 2 (number 2 bs i) ≡ b i ∷ b (suc i) ∷ []
     two i = two-back (b i) (b (suc i)) (byte i) (byte (suc i))
@@ -189,7 +195,7 @@ table-bytes n bs long byte t =
     amount : le 2 (bitsOf 16 (signed 16 (number 2 bs 8))) ≡ b 8 ∷ b 9 ∷ []
     amount = ap (le 2) (bits-signed 16 (number 2 bs 8) (two-below (b 8) (b 9) (byte 8) (byte 9))) ∙ two 8
 
-    -- bytes that the line of kind k has as zero: one, two, and the last six
+    -- bytes that the line of kind k has as zero: one, two, and the last four
     Zeros : ℕ → Type 0
     Zeros k = (i : ℕ) → i < 16 → mayBe k i ≡ 0 → b i ≡ 0
 
@@ -199,47 +205,45 @@ table-bytes n bs long byte t =
     none-two : (k : ℕ) → Zeros k → (i : ℕ) → i < 15 → mayBe k i ≡ 0 → mayBe k (suc i) ≡ 0 → 0 ∷ 0 ∷ [] ≡ b i ∷ b (suc i) ∷ []
     none-two k z i h e f = rw (z i (omega arith) e, z (suc i) (omega arith) f)
 
-    none-last : (k : ℕ) → Zeros k → drop 10 (getD mayBeSet k []) ≡ replicate 6 0
-        → replicate 6 0 ≡ b 10 ∷ b 11 ∷ b 12 ∷ b 13 ∷ b 14 ∷ b 15 ∷ []
-    none-last k z e =
-        rw (
-          z 10 (omega arith) (at 0),
-          z 11 (omega arith) (at 1),
-          z 12 (omega arith) (at 2),
-          z 13 (omega arith) (at 3),
-          z 14 (omega arith) (at 4),
-          z 15 (omega arith) (at 5),
-        )
+    none-last : (k : ℕ) → Zeros k → drop 12 (getD mayBeSet k []) ≡ replicate 4 0 → replicate 4 0 ≡ b 12 ∷ b 13 ∷ b 14 ∷ b 15 ∷ []
+    none-last k z e = rw (z 12 (omega arith) (at 0), z 13 (omega arith) (at 1), z 14 (omega arith) (at 2), z 15 (omega arith) (at 3))
       where
-        at : (j : ℕ) → getD (getD mayBeSet k []) (10 + j) 0 ≡ getD (replicate 6 0) j 0
-        at j = sym (getD-drop 10 (getD mayBeSet k []) j 0) ∙ ap (λ (l : List ℕ). getD l j 0) e
+        at : (j : ℕ) → getD (getD mayBeSet k []) (12 + j) 0 ≡ getD (replicate 4 0) j 0
+        at j = sym (getD-drop 12 (getD mayBeSet k []) j 0) ∙ ap (λ (l : List ℕ). getD l j 0) e
 
-    v : number 1 bs 1 ≡ b 1
-    v = add-zero (b 1)
+    -- a visit's low byte and its high one
+    low : (i j : ℕ) → pair bs i j % 256 ≡ b i
+    low i j = let h = byte i in omega arith
+
+    high : (i j : ℕ) → pair bs i j / 256 % 256 ≡ b j
+    high i j = let h = byte i in let k = byte j in omega arith
 
     c : number 1 bs 3 ≡ b 3
     c = add-zero (b 3)
 
     go : (k : ℕ) → k ≡ b 0 → 1 ≤ k → k ≤ kindLimit → Zeros k
-        → rowBytes n (rowOfKind (k + 256 * 0) (number 1 bs 1) (number 1 bs 2) (number 1 bs 3) (number 2 bs 6) (signed 16 (number 2 bs 8))) ≡
+        → rowBytes n (rowOfKind (k + 256 * 0) (pair bs 1 10) (pair bs 2 11) (number 1 bs 3) (number 2 bs 6) (signed 16 (number 2 bs 8))) ≡
         tabulate 16 0 b
     go zero e l h z = absurd (omega arith)
     go (suc zero) e l h z =
-        same 1 _ 0 0 _ _ _ _ e v (none 1 z 2 (omega arith) refl) (none 1 z 3 (omega arith) refl) own (none-two 1 z 6 (omega arith) refl refl)
-        (none-two 1 z 8 (omega arith) refl refl) (none-last 1 z refl)
+        same 1 _ 0 0 _ 0 _ _ _ _ e (low 1 10) (none 1 z 2 (omega arith) refl) (none 1 z 3 (omega arith) refl) own (none-two 1 z 6 (omega arith) refl refl)
+        (none-two 1 z 8 (omega arith) refl refl) (high 1 10) (none 1 z 11 (omega arith) refl) (none-last 1 z refl)
     go (suc (suc zero)) e l h z =
-        same 2 _ 0 _ _ _ _ _ e v (none 2 z 2 (omega arith) refl) c own (none-two 2 z 6 (omega arith) refl refl) amount (none-last 2 z refl)
+        same 2 _ 0 _ _ 0 _ _ _ _ e (low 1 10) (none 2 z 2 (omega arith) refl) c own (none-two 2 z 6 (omega arith) refl refl) amount
+        (high 1 10) (none 2 z 11 (omega arith) refl) (none-last 2 z refl)
     go (suc (suc (suc zero))) e l h z =
-        same 3 _ _ _ _ _ _ _ e v (add-zero (b 2)) c own (none-two 3 z 6 (omega arith) refl refl) (none-two 3 z 8 (omega arith) refl refl)
-        (none-last 3 z refl)
-    go (suc (suc (suc (suc zero)))) e l h z = same 4 _ 0 _ _ _ _ _ e v (none 4 z 2 (omega arith) refl) c own (two 6) amount (none-last 4 z refl)
+        same 3 _ _ _ _ _ _ _ _ _ e (low 1 10) (low 2 11) c own (none-two 3 z 6 (omega arith) refl refl) (none-two 3 z 8 (omega arith) refl refl)
+        (high 1 10) (high 2 11) (none-last 3 z refl)
+    go (suc (suc (suc (suc zero)))) e l h z =
+        same 4 _ 0 _ _ 0 _ _ _ _ e (low 1 10) (none 4 z 2 (omega arith) refl) c own (two 6) amount (high 1 10) (none 4 z 11 (omega arith) refl)
+        (none-last 4 z refl)
     go (suc (suc (suc (suc (suc zero))))) e l h z =
-        same 5 _ 0 0 _ _ _ _ e v (none 5 z 2 (omega arith) refl) (none 5 z 3 (omega arith) refl) own (none-two 5 z 6 (omega arith) refl refl)
-        (none-two 5 z 8 (omega arith) refl refl) (none-last 5 z refl)
+        same 5 _ 0 0 _ 0 _ _ _ _ e (low 1 10) (none 5 z 2 (omega arith) refl) (none 5 z 3 (omega arith) refl) own (none-two 5 z 6 (omega arith) refl refl)
+        (none-two 5 z 8 (omega arith) refl refl) (high 1 10) (none 5 z 11 (omega arith) refl) (none-last 5 z refl)
     go (suc (suc (suc (suc (suc (suc zero)))))) e l h z =
-        same 6 _ 0 0 _ _ _ _ e v (none 6 z 2 (omega arith) refl) (none 6 z 3 (omega arith) refl) own (none-two 6 z 6 (omega arith) refl refl)
-        (none-two 6 z 8 (omega arith) refl refl) (none-last 6 z refl)
+        same 6 _ 0 0 _ 0 _ _ _ _ e (low 1 10) (none 6 z 2 (omega arith) refl) (none 6 z 3 (omega arith) refl) own (none-two 6 z 6 (omega arith) refl refl)
+        (none-two 6 z 8 (omega arith) refl refl) (high 1 10) (none 6 z 11 (omega arith) refl) (none-last 6 z refl)
     go (suc (suc (suc (suc (suc (suc (suc zero))))))) e l h z =
-        same 7 _ _ 0 _ _ _ _ e v (add-zero (b 2)) (none 7 z 3 (omega arith) refl) own (none-two 7 z 6 (omega arith) refl refl)
-        (none-two 7 z 8 (omega arith) refl refl) (none-last 7 z refl)
+        same 7 _ _ 0 _ _ _ _ _ _ e (low 1 10) (low 2 11) (none 7 z 3 (omega arith) refl) own (none-two 7 z 6 (omega arith) refl refl)
+        (none-two 7 z 8 (omega arith) refl refl) (high 1 10) (high 2 11) (none-last 7 z refl)
     go (suc (suc (suc (suc (suc (suc (suc (suc k)))))))) e l h z = absurd (omega arith)

@@ -2,9 +2,9 @@
 -- computing, those after a full log from what its rows come to.
 use mathlib.Core.Path.{_≡_, refl}
 use mathlib.Core.Bool.{Bool, true, false}
-use mathlib.Core.List.{List, [], _∷_, _++_}
+use mathlib.Core.List.{List, [], _∷_, _++_, map}
 use lib.IntN.{pos, negsuc}
-use Rattle.book.specs.Rows.{Row}
+use Rattle.book.specs.Rows.{Row, fits}
 use Rattle.book.specs.Ledger.{ledger}
 use Rattle.book.specs.Rules.{allowed, allowedLog}
 use Rattle.book.proofs.WorkedExamples.{computes, visits, committedVisits, scopes}
@@ -38,14 +38,15 @@ pub begin-row-17 : allowedAfter (visits 16) (Row.begin 17) ≡ false
 unfolding computes
 begin-row-17 = refl
 
--- 01: "visit, 1 to 255"
-pub begin-row-255 : allowedAfter (committedVisits 254) (Row.begin 255) ≡ true
-unfolding computes
-begin-row-255 = refl
-
-pub begin-row-256 : allowedAfter (committedVisits 255) (Row.begin 256) ≡ false
+-- 02, L7: "Visits become 16-bit"
+pub begin-row-256 : allowedAfter (committedVisits 255) (Row.begin 256) ≡ true
 unfolding computes
 begin-row-256 = refl
+
+-- 02, L7: "The limit is 65,535 visits": no log has so many, so of the range alone
+pub visit-range : map (λ v. fits (Row.begin v)) (0 ∷ 1 ∷ 65535 ∷ 65536 ∷ []) ≡ false ∷ true ∷ true ∷ false ∷ []
+unfolding computes
+visit-range = refl
 
 -- ── Change ────────────────────────────────────────────────────────────────────────────────────────────────────────────
 

@@ -50,6 +50,23 @@ pub row-of-each-kind : map (rowBytes 258) eachKind ≡
 unfolding computes
 row-of-each-kind = refl
 
+-- 02, L7: "byte 1 stays the low byte and byte 10 holds the high one, byte 2 and byte 11 likewise for the receiver": 300 is 44 and 1, 513 is 1 and 2
+abbrev wideVisits : List Row
+wideVisits = Row.begin 300 ∷ Row.change 300 9 (negsuc 199) ∷ Row.handOver 300 513 9 ∷ Row.undo 513 9 2 (negsuc 199) ∷ Row.commit 300 ∷ Row.abort 513 ∷
+    Row.handOverAll 300 513 ∷ []
+
+pub wide-visits : map (rowBytes 258) wideVisits ≡
+    (1 ∷ 44 ∷ 0 ∷ 0 ∷ 2 ∷ 1 ∷ 0 ∷ 0 ∷ 0 ∷ 0 ∷ 1 ∷ 0 ∷ 0 ∷ 0 ∷ 0 ∷ 0 ∷ []) ∷
+    (2 ∷ 44 ∷ 0 ∷ 9 ∷ 2 ∷ 1 ∷ 0 ∷ 0 ∷ 56 ∷ 255 ∷ 1 ∷ 0 ∷ 0 ∷ 0 ∷ 0 ∷ 0 ∷ []) ∷
+    (3 ∷ 44 ∷ 1 ∷ 9 ∷ 2 ∷ 1 ∷ 0 ∷ 0 ∷ 0 ∷ 0 ∷ 1 ∷ 2 ∷ 0 ∷ 0 ∷ 0 ∷ 0 ∷ []) ∷
+    (4 ∷ 1 ∷ 0 ∷ 9 ∷ 2 ∷ 1 ∷ 2 ∷ 0 ∷ 56 ∷ 255 ∷ 2 ∷ 0 ∷ 0 ∷ 0 ∷ 0 ∷ 0 ∷ []) ∷
+    (5 ∷ 44 ∷ 0 ∷ 0 ∷ 2 ∷ 1 ∷ 0 ∷ 0 ∷ 0 ∷ 0 ∷ 1 ∷ 0 ∷ 0 ∷ 0 ∷ 0 ∷ 0 ∷ []) ∷
+    (6 ∷ 1 ∷ 0 ∷ 0 ∷ 2 ∷ 1 ∷ 0 ∷ 0 ∷ 0 ∷ 0 ∷ 2 ∷ 0 ∷ 0 ∷ 0 ∷ 0 ∷ 0 ∷ []) ∷
+    (7 ∷ 44 ∷ 1 ∷ 0 ∷ 2 ∷ 1 ∷ 0 ∷ 0 ∷ 0 ∷ 0 ∷ 1 ∷ 2 ∷ 0 ∷ 0 ∷ 0 ∷ 0 ∷ []) ∷
+    []
+unfolding computes
+wide-visits = refl
+
 -- what is read in the bytes of n rows
 abbrev read : ℕ → List ℕ → Log
 read n bs = readRows n 1 empty bs
@@ -79,6 +96,11 @@ whole-visit-read = refl
 pub whole-visit-with-a-cell : read 4 (set (rowsBytes 1 fourRows) (16 * 3 + 3) 9) ≡ bad 3 4
 unfolding computes
 whole-visit-with-a-cell = refl
+
+-- 02, L7: a begin row has no receiver, so its byte 11 must be zero; with byte 10 set, row 1 begins visit 257
+pub high-bytes-of-a-begin : map (λ i. read 1 (set (rowsBytes 1 (Row.begin 1 ∷ [])) i 1)) (10 ∷ 11 ∷ []) ≡ bad 3 1 ∷ bad 3 1 ∷ []
+unfolding computes
+high-bytes-of-a-begin = refl
 
 -- there is no kind 8
 pub no-kind-8 : read 4 (set (rowsBytes 1 fourRows) (16 * 3) 8) ≡ bad 3 4

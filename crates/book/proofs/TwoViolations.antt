@@ -5,12 +5,9 @@
 use Prim.Native.Nat.{ℕ, _+_, _*_}
 use mathlib.Core.Path.{_≡_, refl}
 use mathlib.Core.Bool.{true, false}
-use mathlib.Core.List.{List, [], _∷_, _++_, map, append-nil}
+use mathlib.Core.List.{List, [], _∷_, map, append-nil}
 use lib.ListN.{replicate, set}
 use lib.IntN.{pos}
-use Rattle.book.specs.Lists.{tabulate}
-use Rattle.book.specs.Rows.{Row}
-use Rattle.book.specs.Rules.{allowedLog}
 use Rattle.book.specs.Calls.{Call}
 use Rattle.book.specs.Power.{left, closed}
 use Rattle.book.specs.Book.{answer, refused, opening, refusedBy}
@@ -19,22 +16,12 @@ use Rattle.book.specs.Cells.{zeros}
 use Rattle.book.specs.LogBytes.{logBytes, good}
 use Rattle.book.specs.Pages.{chartBytes, pageAfter}
 use Rattle.book.specs.Opening.{checked, openBytes}
-use Rattle.book.proofs.WorkedExamples.{computes, visits, committedVisits, scopes, refusalAfter}
+use Rattle.book.proofs.WorkedExamples.{computes, visits, scopes, refusalAfter}
 use Rattle.book.proofs.FullLogs.{filled, toAndFro, rows4093, sixteenVisits, scopesUsedUp, comes-4093, comes-sixteen}
 
 -- ── Begin: 6, 7, 8 ────────────────────────────────────────────────────────────────────────────────────────────────────
 
--- 255 visits are used, and 16 of them are active
-abbrev allUsed : List Row
-allUsed = committedVisits 239 ++ tabulate 16 240 Row.begin
-
-pub all-used-allowed : allowedLog allUsed ≡ true
-unfolding computes
-all-used-allowed = refl
-
-pub begin-6-before-7 : refusalAfter allUsed Call.begin ≡ 6
-unfolding computes
-begin-6-before-7 = refl
+-- 6 before 7 is in `VisitsUsedUp`, since no log has 65,535 begin rows.
 
 -- 16 visits are active, and the 17 free rows are the reserve
 pub begin-7-before-8 : refusalAfter sixteenVisits Call.begin ≡ 7

@@ -16,6 +16,7 @@ pub mod Swapped
 pub mod Numbers
 pub mod RowBytes
 pub mod LogBytes
+pub mod OldLogs
 pub mod Pages
 pub mod Opening
 pub mod Logs

@@ -28,9 +28,9 @@ chartsLength = 1024
 abbrev pub cellLimit : ℕ
 cellLimit = 224
 
--- 01: visits 1 to 255
+-- 02, L7: visits 1 to 65,535
 abbrev pub visitLimit : ℕ
-visitLimit = 255
+visitLimit = 65535
 
 -- 01: kinds of rows 1 to 6, and 02, L2: kind 7; kind 0 is a blank row
 abbrev pub kindLimit : ℕ

@@ -1,5 +1,5 @@
 -- A row's 16 bytes (document 01, "The store"): the table of bytes, writing and reading.
-use Prim.Native.Nat.{ℕ, zero, suc}
+use Prim.Native.Nat.{ℕ, zero, suc, _+_, _*_, _/_, _%_}
 use mathlib.Core.Bool.{Bool}
 use mathlib.Core.List.{List, [], _∷_, _++_}
 use lib.ListN.{getD, replicate}
@@ -23,22 +23,23 @@ kindOf (Row.handOverAll g r) = 7
 abbrev pub mayBeSet : List (List ℕ)
 mayBeSet =
     (0 ∷ 0 ∷ 0 ∷ 0 ∷ 0 ∷ 0 ∷ 0 ∷ 0 ∷ 0 ∷ 0 ∷ 0 ∷ 0 ∷ 0 ∷ 0 ∷ 0 ∷ 0 ∷ []) ∷
-    (1 ∷ 1 ∷ 0 ∷ 0 ∷ 1 ∷ 1 ∷ 0 ∷ 0 ∷ 0 ∷ 0 ∷ 0 ∷ 0 ∷ 0 ∷ 0 ∷ 0 ∷ 0 ∷ []) ∷
-    (1 ∷ 1 ∷ 0 ∷ 1 ∷ 1 ∷ 1 ∷ 0 ∷ 0 ∷ 1 ∷ 1 ∷ 0 ∷ 0 ∷ 0 ∷ 0 ∷ 0 ∷ 0 ∷ []) ∷
-    (1 ∷ 1 ∷ 1 ∷ 1 ∷ 1 ∷ 1 ∷ 0 ∷ 0 ∷ 0 ∷ 0 ∷ 0 ∷ 0 ∷ 0 ∷ 0 ∷ 0 ∷ 0 ∷ []) ∷
-    (1 ∷ 1 ∷ 0 ∷ 1 ∷ 1 ∷ 1 ∷ 1 ∷ 1 ∷ 1 ∷ 1 ∷ 0 ∷ 0 ∷ 0 ∷ 0 ∷ 0 ∷ 0 ∷ []) ∷
-    (1 ∷ 1 ∷ 0 ∷ 0 ∷ 1 ∷ 1 ∷ 0 ∷ 0 ∷ 0 ∷ 0 ∷ 0 ∷ 0 ∷ 0 ∷ 0 ∷ 0 ∷ 0 ∷ []) ∷
-    (1 ∷ 1 ∷ 0 ∷ 0 ∷ 1 ∷ 1 ∷ 0 ∷ 0 ∷ 0 ∷ 0 ∷ 0 ∷ 0 ∷ 0 ∷ 0 ∷ 0 ∷ 0 ∷ []) ∷
-    (1 ∷ 1 ∷ 1 ∷ 0 ∷ 1 ∷ 1 ∷ 0 ∷ 0 ∷ 0 ∷ 0 ∷ 0 ∷ 0 ∷ 0 ∷ 0 ∷ 0 ∷ 0 ∷ []) ∷
+    (1 ∷ 1 ∷ 0 ∷ 0 ∷ 1 ∷ 1 ∷ 0 ∷ 0 ∷ 0 ∷ 0 ∷ 1 ∷ 0 ∷ 0 ∷ 0 ∷ 0 ∷ 0 ∷ []) ∷
+    (1 ∷ 1 ∷ 0 ∷ 1 ∷ 1 ∷ 1 ∷ 0 ∷ 0 ∷ 1 ∷ 1 ∷ 1 ∷ 0 ∷ 0 ∷ 0 ∷ 0 ∷ 0 ∷ []) ∷
+    (1 ∷ 1 ∷ 1 ∷ 1 ∷ 1 ∷ 1 ∷ 0 ∷ 0 ∷ 0 ∷ 0 ∷ 1 ∷ 1 ∷ 0 ∷ 0 ∷ 0 ∷ 0 ∷ []) ∷
+    (1 ∷ 1 ∷ 0 ∷ 1 ∷ 1 ∷ 1 ∷ 1 ∷ 1 ∷ 1 ∷ 1 ∷ 1 ∷ 0 ∷ 0 ∷ 0 ∷ 0 ∷ 0 ∷ []) ∷
+    (1 ∷ 1 ∷ 0 ∷ 0 ∷ 1 ∷ 1 ∷ 0 ∷ 0 ∷ 0 ∷ 0 ∷ 1 ∷ 0 ∷ 0 ∷ 0 ∷ 0 ∷ 0 ∷ []) ∷
+    (1 ∷ 1 ∷ 0 ∷ 0 ∷ 1 ∷ 1 ∷ 0 ∷ 0 ∷ 0 ∷ 0 ∷ 1 ∷ 0 ∷ 0 ∷ 0 ∷ 0 ∷ 0 ∷ []) ∷
+    (1 ∷ 1 ∷ 1 ∷ 0 ∷ 1 ∷ 1 ∷ 0 ∷ 0 ∷ 0 ∷ 0 ∷ 1 ∷ 1 ∷ 0 ∷ 0 ∷ 0 ∷ 0 ∷ []) ∷
     []
 
 -- the table's entry, 0 beyond it
 abbrev pub mayBe : ℕ → ℕ → ℕ
 mayBe kind at = getD (getD mayBeSet kind []) at 0
 
--- 01: the table of bytes: kind, visit, receiver, cell, the row's own number, row undone, change
+-- 01: the table of bytes: kind, visit, receiver, cell, the row's own number, row undone, change; 02, L7: the high bytes of visit and receiver
 abbrev pub fields : ℕ → ℕ → ℕ → ℕ → ℕ → ℕ → ℤ → List ℕ
-fields kind v r c n u a = kind ∷ v ∷ r ∷ c ∷ le 2 n ++ le 2 u ++ le 2 (bitsOf 16 a) ++ replicate 6 0
+fields kind v r c n u a =
+    kind ∷ v % 256 ∷ r % 256 ∷ c ∷ le 2 n ++ le 2 u ++ le 2 (bitsOf 16 a) ++ (v / 256 % 256 ∷ r / 256 % 256 ∷ replicate 4 0)
 
 -- the bytes of row n
 unfoldable pub rowBytes : ℕ → Row → List ℕ
@@ -61,9 +62,13 @@ rowOfKind (suc (suc (suc (suc (suc zero))))) v r c u a = Row.commit v
 rowOfKind (suc (suc (suc (suc (suc (suc zero)))))) v r c u a = Row.abort v
 rowOfKind (suc (suc (suc (suc (suc (suc (suc k))))))) v r c u a = Row.handOverAll v r
 
+-- the number with its low byte at i and its high byte at j
+abbrev pub pair : List ℕ → ℕ → ℕ → ℕ
+pair bs i j = getD bs i 0 + 256 * getD bs j 0
+
 -- the row that 16 bytes would be
 abbrev pub rowOf : List ℕ → Row
-rowOf bs = rowOfKind (number 1 bs 0) (number 1 bs 1) (number 1 bs 2) (number 1 bs 3) (number 2 bs 6) (signed 16 (number 2 bs 8))
+rowOf bs = rowOfKind (number 1 bs 0) (pair bs 1 10) (pair bs 2 11) (number 1 bs 3) (number 2 bs 6) (signed 16 (number 2 bs 8))
 
 -- the bytes are those of a row n: a known kind, zero where the table says so, and its own number
 abbrev pub isRowBytes : ℕ → List ℕ → Bool

@@ -60,7 +60,7 @@ abortedBy (handOverAll g r) = 0
 
 -- ── The fields fit their bytes (01: the table of bytes) ───────────────────────────────────────────────────────────────
 
--- 01: visit, 1 to 255
+-- 02, L7: visit, 1 to 65,535
 abbrev pub isVisit : ℕ → Bool
 isVisit v = leb 1 v && leb v visitLimit
 

@@ -4,7 +4,7 @@ ghost use Prim.Native.Nat.{suc, _+_, _*_, _≤_, _<_};
 ghost use lib.ListN.{length};
 ghost use Rattle.book.specs.Limits.{rowLength, rowLimit};
 ghost use Rattle.book.specs.RowBytes.{rowBytes};
-ghost use Rattle.rows.specs.Meaning.{meant, narrowed};
+ghost use Rattle.rows.specs.Meaning.{meant};
 ghost use Rattle.journal.specs.Writes.{putRow};
 ghost use Rattle.costliest.specs.Log.{isWritten, logAfter};
 ghost use Rattle.costliest.specs.NextRow.{costliestRow};
@@ -20,7 +20,7 @@ use rows::writer::write_row;
 
 // The row after k others.
 fn next_row(k: usize) -> Row
-    ensures { λ r. ⌜ narrowed (meant r) ≡ costliestRow k ⌝ }
+    ensures { λ r. ⌜ meant r ≡ costliestRow k ⌝ }
 {
     if k == 0 {
         Row::Begin(Visit(1))
@@ -32,7 +32,7 @@ fn next_row(k: usize) -> Row
 // Writes the row behind k others, with k + 1 for its own number.
 fn put_row(log: &mut [u8], k: usize, row: Row)
     requires { ⌜ (rowLength * k + rowLength ≤ length (now log)) × (k < rowLimit) ⌝ }
-    ensures { λ _. ⌜ now (log .exit) ≡ putRow (now (log .entry)) k (rowBytes (suc k) (narrowed (meant row))) ⌝ }
+    ensures { λ _. ⌜ now (log .exit) ≡ putRow (now (log .entry)) k (rowBytes (suc k) (meant row)) ⌝ }
 {
     let a = ROW_LENGTH * k;
     let e = a + ROW_LENGTH;

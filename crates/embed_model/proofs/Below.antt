@@ -47,33 +47,28 @@ unfolding Below
 below-le zero x = tt
 below-le (suc k) x = (omega arith, below-le k (x / 256))
 
-below-fields : (kind v r c n u : ℕ) (a : ℤ) → kind < 256 → v < 256 → r < 256 → c < 256 → Below 256 (fields kind v r c n u a)
+below-fields : (kind v r c n u : ℕ) (a : ℤ) → kind < 256 → c < 256 → Below 256 (fields kind v r c n u a)
 unfolding Below
-below-fields kind v r c n u a hk hv hr hc = omega arith
+below-fields kind v r c n u a hk hc = omega arith
 
-pub visit-byte : (v : ℕ) → isVisit v ≡ true → v < 256
-visit-byte v e = let k = leb-true v visitLimit (and-r (leb 1 v) _ e) in omega arith
+pub visit-small : (v : ℕ) → isVisit v ≡ true → v < 65536
+visit-small v e = let k = leb-true v visitLimit (and-r (leb 1 v) _ e) in omega arith
 
 cell-byte : (c : ℕ) → isCell c ≡ true → c < 256
 cell-byte c e = let k = ltb-true c cellLimit e in omega arith
 
 below-row : (n : ℕ) (r : Row) → fits r ≡ true → Below 256 (rowBytes n r)
 unfolding rowBytes fits
-below-row n (Row.begin v) e = below-fields 1 v 0 0 n 0 (pos 0) (omega arith) (visit-byte v e) (omega arith) (omega arith)
+below-row n (Row.begin v) e = below-fields 1 v 0 0 n 0 (pos 0) (omega arith) (omega arith)
 below-row n (Row.change v c a) e =
-    let f = and-l (isVisit v && isCell c) _ e in
-    below-fields 2 v 0 c n 0 a (omega arith) (visit-byte v (and-l (isVisit v) _ f)) (omega arith) (cell-byte c (and-r (isVisit v) _ f))
-below-row n (Row.handOver g r c) e =
-    let f = and-l (isVisit g && isVisit r) _ e in
-    below-fields 3 g r c n 0 (pos 0) (omega arith) (visit-byte g (and-l (isVisit g) _ f)) (visit-byte r (and-r (isVisit g) _ f))
-    (cell-byte c (and-r (isVisit g && isVisit r) _ e))
+    below-fields 2 v 0 c n 0 a (omega arith) (cell-byte c (and-r (isVisit v) _ (and-l (isVisit v && isCell c) _ e)))
+below-row n (Row.handOver g r c) e = below-fields 3 g r c n 0 (pos 0) (omega arith) (cell-byte c (and-r (isVisit g && isVisit r) _ e))
 below-row n (Row.undo h c u a) e =
     let f = and-l (isVisit h && isCell c) _ (and-l (isVisit h && isCell c && isRowNumber u) _ e) in
-    below-fields 4 h 0 c n u a (omega arith) (visit-byte h (and-l (isVisit h) _ f)) (omega arith) (cell-byte c (and-r (isVisit h) _ f))
-below-row n (Row.commit v) e = below-fields 5 v 0 0 n 0 (pos 0) (omega arith) (visit-byte v e) (omega arith) (omega arith)
-below-row n (Row.abort v) e = below-fields 6 v 0 0 n 0 (pos 0) (omega arith) (visit-byte v e) (omega arith) (omega arith)
-below-row n (Row.handOverAll g r) e =
-    below-fields 7 g r 0 n 0 (pos 0) (omega arith) (visit-byte g (and-l (isVisit g) _ e)) (visit-byte r (and-r (isVisit g) _ e)) (omega arith)
+    below-fields 4 h 0 c n u a (omega arith) (cell-byte c (and-r (isVisit h) _ f))
+below-row n (Row.commit v) e = below-fields 5 v 0 0 n 0 (pos 0) (omega arith) (omega arith)
+below-row n (Row.abort v) e = below-fields 6 v 0 0 n 0 (pos 0) (omega arith) (omega arith)
+below-row n (Row.handOverAll g r) e = below-fields 7 g r 0 n 0 (pos 0) (omega arith) (omega arith)
 
 pub below-rows : (n : ℕ) (l : Ledger) (rs : List Row) → allAllowed l rs ≡ true → Below 256 (rowsBytes n rs)
 unfolding Below

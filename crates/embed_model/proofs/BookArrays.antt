@@ -7,7 +7,7 @@ use mathlib.Core.List.{List, [], _∷_, map}
 use lib.ListN.{length, replicate}
 use lib.IntN.{ℤ}
 use Rattle.book.specs.Lists.{padTo}
-use Rattle.book.specs.Limits.{chartsLength}
+use Rattle.book.specs.Limits.{chartsLength, visitLimit}
 use Rattle.book.specs.Power.{Book, Fuse, none, left, rowsOf, ledgerOf}
 use Rattle.book.specs.LogBytes.{rowsBytes, logBytes}
 use Rattle.book.specs.Pages.{chartBytes, pageAfter}
@@ -61,7 +61,7 @@ ofOpen cells b charts =
     (chartBytes (pageAfter cells (rowsOf b))) (logBytes (b .stored)) charts
 
 module _ (cells : ℕ → ℤ) (b : Book) (charts : List ℕ) (s : Sound b) (open′ : b .isOpen ≡ true) where
-  begun-small : counts b .begun ≤ 255
+  begun-small : counts b .begun ≤ visitLimit
   unfolding tablesOf
   begun-small = sound-inv b s .count
 

@@ -27,7 +27,7 @@ use Rattle.tables_model.specs.Meaning.{vacant, activeOf, tablesOf, scopeTable}
 use Rattle.tables_model.proofs.Reversed.{of-reverse}
 use Rattle.tables_model.proofs.WithinLimits.{limited}
 use Rattle.state.proofs.Lengths.{padded-length}
-use Rattle.embed_model.proofs.Below.{visit-byte}
+use Rattle.embed_model.proofs.Below.{visit-small}
 use Rattle.embed_model.proofs.FlatTables.{EntryFits}
 
 -- ── Lists ─────────────────────────────────────────────────────────────────────────────────────────────────────────────
@@ -49,9 +49,9 @@ module _ {A : Type 0} where
   in-sum f x (y ∷ xs) (List·Memᴰ·head e) = let k = ap f e in omega arith
   in-sum f x (y ∷ xs) (List·Memᴰ·tail m) = let k = in-sum f x xs m in omega arith
 
-visit-fits : (v c : ℕ) (a : ℤ) → fits (change v c a) ≡ true → v < 256
+visit-fits : (v c : ℕ) (a : ℤ) → fits (change v c a) ≡ true → v < 65536
 unfolding fits
-visit-fits v c a e = visit-byte v (and-l (isVisit v) _ (and-l (isVisit v && isCell c) _ e))
+visit-fits v c a e = visit-small v (and-l (isVisit v) _ (and-l (isVisit v && isCell c) _ e))
 
 -- ── The tables ────────────────────────────────────────────────────────────────────────────────────────────────────────
 
@@ -69,7 +69,7 @@ module _ (rs : List Row) (al : allowedLog rs ≡ true) where
       let n = x .row - 1 in
       let rest = allowed-rest (take n rs) rs (getD rs n (begin 0) ∷ drop (suc n) rs, split-at rs n (begin 0) (omega arith)) al in
       let fit = allowed-fits (ledger (take n rs)) (getD rs n (begin 0)) (and-l (allowed (ledger (take n rs)) (getD rs n (begin 0))) _ rest) in
-      let byte = visit-fits (x .maker) (x .cell) (x .amount) (subst (λ (r : Row). fits r ≡ true) (row-of rs x m) fit) in omega arith
+      visit-fits (x .maker) (x .cell) (x .amount) (subst (λ (r : Row). fits r ≡ true) (row-of rs x m) fit)
 
   row-small : (x : Change) → In x (ledger rs .changes) → x .row ≤ 4096
   row-small x m = let k = inv .good x m .row in let s = inv .space in omega arith

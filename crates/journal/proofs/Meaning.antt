@@ -11,13 +11,12 @@ use lib.Dec.{leb}
 use borrow.Author.Tests.{lt-ltb, leb-false}
 use Rattle.book.specs.Lists.{times, padTo}
 use Rattle.book.specs.Limits.{tailLimit}
-use Rattle.book.specs.Rows.{Row, fits}
+use Rattle.book.specs.Rows.{Row}
 use Rattle.book.specs.LogBytes.{rowsBytes}
 use Rattle.book.specs.Power.{Book, Fuse, none, left, rowsOf, closed, storeRow, force, storePage, append, add}
 use Rattle.book.proofs.Lists.{clash}
 use Rattle.book.proofs.Steps.{Shut, bookOf, extends-times, extends-force}
 use Rattle.book.proofs.Force.{force-empties}
-use Rattle.rows.proofs.Meanings.{narrowed-fits}
 use Rattle.journal.specs.Writes.{putPage}
 use Rattle.journal.specs.Force.{Ran, chunks, runs, controlAfter}
 use Rattle.journal.specs.Journal.{Journal, forcedUpTo, tailAfter, forced, withRoom, joinedIf, appended, paged}
@@ -122,23 +121,23 @@ has-room b shut room = go (leb tailLimit (length (b .waiting))) refl
     go true e = (omega (arith, ap length (force-empties b)), λ o. omega (arith, ap length (extends-force b shut .rows o ∙ append-nil (rowsOf b))))
     go false e = (leb-false 64 (length (b .waiting)) e, λ o. room)
 
-row-joins : (s w : List Row) (f : Fuse) (o : Bool) (r : Row) → length w < 64 → (o ≡ true → length (s ++ w) < 4096) → fits r ≡ true
+row-joins : (s w : List Row) (f : Fuse) (o : Bool) (r : Row) → length w < 64 → (o ≡ true → length (s ++ w) < 4096)
     → joinedIf (phaseOf o) (journalOf (bookOf s w f o)) r ≡ journalOf (append (bookOf s w f o) r)
 unfolding journalOf controlOf
-row-joins s w f false r few room fit = refl
-row-joins s w f true r few room fit =
+row-joins s w f false r few room = refl
+row-joins s w f true r few room =
     let k : length s + length w < 4096 = omega (arith, length-append s w, room refl) in
     let n : suc (length s + length w) ≡ suc (length s) + length w = omega arith in
-    rw (lt-ltb (length s + length w) 4096 k, narrowed-fits r fit, n, put-next 1024 (suc (length s)) w r (omega arith), snoc-length w r)
+    rw (lt-ltb (length s + length w) 4096 k, n, put-next 1024 (suc (length s)) w r (omega arith), snoc-length w r)
 
 -- 01: adding a row, if 64 wait a force comes first
-pub appended-is : (b : Book) (r : Row) → Shut b → length (b .waiting) ≤ 64 → length (rowsOf b) < 4096 → fits r ≡ true
+pub appended-is : (b : Book) (r : Row) → Shut b → length (b .waiting) ≤ 64 → length (rowsOf b) < 4096
     → appended (journalOf b) r ≡ journalOf (add b r)
 unfolding appended add journalOf controlOf
-appended-is b r shut few room fit =
+appended-is b r shut few room =
     let c = roomFor b in
     let k = has-room b shut room in
-    rw (room-made b shut few (omega arith)) (row-joins (c .stored) (c .waiting) (c .fuse) (c .isOpen) r (k .0) (k .1) fit)
+    rw (room-made b shut few (omega arith)) (row-joins (c .stored) (c .waiting) (c .fuse) (c .isOpen) r (k .0) (k .1))
 
 -- ── A page ────────────────────────────────────────────────────────────────────────────────────────────────────────────
 

@@ -7,7 +7,6 @@ use lib.Dec.{leb, ltb}
 use Rattle.book.specs.Limits.{rowLimit, rowLength, tailLimit}
 use Rattle.book.specs.Rows.{Row}
 use Rattle.book.specs.RowBytes.{rowBytes}
-use Rattle.rows.specs.Meaning.{narrowed}
 use Rattle.state.specs.declared.ram.Phase.{Phase}
 use Rattle.state.specs.declared.ram.Phase.the-variants.{Open, Closed}
 use Rattle.journal.specs.declared.Control.{Control}
@@ -49,7 +48,7 @@ abbrev pub joined : Journal → Row → Journal
 joined j r = record {
   control = record { phase = Open; fuse = j .control .fuse; stored = j .control .stored; waiting = suc (j .control .waiting) };
   log = j .log;
-  tail = putAt rowLength (j .tail) (rowLength * j .control .waiting) (rowBytes (suc (j .control .stored + j .control .waiting)) (narrowed r));
+  tail = putAt rowLength (j .tail) (rowLength * j .control .waiting) (rowBytes (suc (j .control .stored + j .control .waiting)) r);
 }
 
 -- closed: nothing waits

@@ -6,7 +6,7 @@ use native.Mathlib.Omega.{arith}
 use lib.ListN.{length, getD}
 use Rattle.book.specs.Limits.{kindLimit}
 use Rattle.book.specs.RowBytes.{mayBe, rowBytes}
-use Rattle.rows.specs.Meaning.{meant, narrowed}
+use Rattle.rows.specs.Meaning.{meant}
 use Rattle.rows.specs.Table.{masked, fill}
 use Rattle.rows.specs.Writing.{fieldsOf, fieldBytes}
 use Rattle.rows.specs.declared.Row.{Row}
@@ -39,7 +39,7 @@ filled : (k : ℕ) (f b : List ℕ) → length b ≡ 16 → fill 16 0 k f b ≡ 
 filled k f b e = ap (fill 16 0 k f) (sixteen b e) ∙ over k f _ _ _ _ _ _ _ _ _ _ _ _ _ _ _ _
 
 pub written : (r : Row) (n : ℕ) (b : List ℕ) → length b ≡ 16
-    → fill 16 0 (fieldsOf r .kind) (fieldBytes (fieldsOf r) n) b ≡ rowBytes n (narrowed (meant r))
+    → fill 16 0 (fieldsOf r .kind) (fieldBytes (fieldsOf r) n) b ≡ rowBytes n (meant r)
 unfolding rowBytes
 written (Begin v) n b e = filled 1 (fieldBytes (fieldsOf (Begin v)) n) b e
 written (Change v c a) n b e = filled 2 (fieldBytes (fieldsOf (Change v c a)) n) b e

@@ -1,5 +1,4 @@
 -- The code's rows and the book's: what a row of the code means, and the row of the code that means one of the book. The same of effects.
-use Prim.Native.Nat.{_%_}
 use lib.IntN.{negℤ}
 use Rattle.book.specs.Rows as book
 use Rattle.rows.specs.declared.Row.{Row}
@@ -26,16 +25,6 @@ coded (book.Row.undo h c n a) = Undo (record { 0 = h }) (record { 0 = c }) (reco
 coded (book.Row.commit v) = Commit (record { 0 = v })
 coded (book.Row.abort v) = Abort (record { 0 = v })
 coded (book.Row.handOverAll g r) = HandOverAll (record { 0 = g }) (record { 0 = r })
-
--- the row with its visits cut to one byte each; a row that fits is itself
-abbrev pub narrowed : book.Row → book.Row
-narrowed (book.Row.begin v) = book.Row.begin (v % 256)
-narrowed (book.Row.change v c a) = book.Row.change (v % 256) c a
-narrowed (book.Row.handOver g r c) = book.Row.handOver (g % 256) (r % 256) c
-narrowed (book.Row.undo h c n a) = book.Row.undo (h % 256) c n a
-narrowed (book.Row.commit v) = book.Row.commit (v % 256)
-narrowed (book.Row.abort v) = book.Row.abort (v % 256)
-narrowed (book.Row.handOverAll g r) = book.Row.handOverAll (g % 256) (r % 256)
 
 -- what a row does to the charts, in the code's terms
 abbrev pub effectOf : Row → Effect

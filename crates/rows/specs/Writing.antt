@@ -20,4 +20,4 @@ fieldsOf (HandOverAll g r) = record { kind = 7; visit = g .0; receiver = r .0; c
 abbrev pub fieldBytes : Fields → ℕ → List ℕ
 fieldBytes f n =
     f .kind ∷ f .visit % 256 ∷ f .receiver % 256 ∷ f .cell ∷ n % 256 ∷ n / 256 % 256 ∷ f .undone % 256 ∷ f .undone / 256 % 256 ∷
-    f .change % 256 ∷ f .change / 256 % 256 ∷ 0 ∷ 0 ∷ 0 ∷ 0 ∷ 0 ∷ 0 ∷ []
+    f .change % 256 ∷ f .change / 256 % 256 ∷ f .visit / 256 % 256 ∷ f .receiver / 256 % 256 ∷ 0 ∷ 0 ∷ 0 ∷ 0 ∷ []

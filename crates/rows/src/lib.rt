@@ -11,7 +11,7 @@ pub mod writer;
 // A row's number, from 1.
 pub struct Lsn(pub u16);
 
-// A visit's number, from 1. In a row it has one byte.
+// A visit's number, from 1.
 pub struct Visit(pub u16);
 
 // A cell's number.

@@ -20,8 +20,8 @@ pub const CHARTS_LENGTH: usize = PAGE_LIMIT * PAGE_LENGTH;
 // Cells are numbered below this.
 pub const CELL_LIMIT: usize = PAGE_LIMIT * PLACES;
 
-// The greatest visit number that a row has a byte for.
-pub const VISIT_LIMIT: usize = 255;
+// The greatest visit number, of two bytes.
+pub const VISIT_LIMIT: usize = 65535;
 
 // The greatest kind of a row; kind 0 is a blank row.
 pub const KIND_LIMIT: usize = 7;

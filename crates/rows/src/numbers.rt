@@ -69,13 +69,7 @@ pub fn signed(n: u16) -> i16
     }
 }
 
-// A byte as 16 bits, and as an index.
-pub fn wide(x: u8) -> u16
-    ensures { λ r. ⌜ r ≡ x ⌝ }
-{
-    x as u16
-}
-
+// A byte as an index.
 pub fn index(x: u8) -> usize
     ensures { λ r. ⌜ r ≡ x ⌝ }
 {

@@ -2,7 +2,7 @@
 // then those of the ranges.
 ghost use mathlib.Core.Path.{_≡_};
 ghost use lib.ListN.{length};
-ghost use Rattle.book.specs.RowBytes.{isRowBytes, rowOf};
+ghost use Rattle.book.specs.RowBytes.{isRowBytes, pair, rowOf};
 ghost use Rattle.book.specs.Limits.{rowLength};
 ghost use Rattle.rows.specs.Meaning.{coded};
 ghost use Rattle.rows.specs.Reading.{isBlank, readOf};
@@ -14,7 +14,6 @@ use crate::Visit;
 use crate::limits::KIND_LIMIT;
 use crate::numbers::index;
 use crate::numbers::signed;
-use crate::numbers::wide;
 use crate::numbers::word;
 use crate::ranges::in_range;
 use crate::table::is_as_table;
@@ -46,22 +45,37 @@ pub fn has_row_bytes(b: &[u8], n: Lsn) -> bool
     }
 }
 
+// The visit and the receiver, each by its low byte and its high one.
+pub fn visit_in(b: &[u8]) -> Visit
+    requires { ⌜ length (now b) ≡ rowLength ⌝ }
+    ensures { λ r. ⌜ r .0 ≡ pair (now (b .entry)) 1 10 ⌝ }
+{
+    Visit(word(b[1], b[10]))
+}
+
+fn receiver_in(b: &[u8]) -> Visit
+    requires { ⌜ length (now b) ≡ rowLength ⌝ }
+    ensures { λ r. ⌜ r .0 ≡ pair (now (b .entry)) 2 11 ⌝ }
+{
+    Visit(word(b[2], b[11]))
+}
+
 // The row that the bytes would be, by their kind, whatever the others are.
 pub fn row_in(b: &[u8]) -> Row
     requires { ⌜ length (now b) ≡ rowLength ⌝ }
     ensures { λ r. ⌜ r ≡ coded (rowOf (now (b .entry))) ⌝ }
 {
-    let visit = Visit(wide(b[1]));
+    let visit = visit_in(b);
     let cell = Cell(b[3]);
     match b[0] {
         0 => Row::Begin(Visit(0)),
         1 => Row::Begin(visit),
         2 => Row::Change(visit, cell, signed(word(b[8], b[9]))),
-        3 => Row::HandOver(visit, Visit(wide(b[2])), cell),
+        3 => Row::HandOver(visit, receiver_in(b), cell),
         4 => Row::Undo(visit, cell, Lsn(word(b[6], b[7])), signed(word(b[8], b[9]))),
         5 => Row::Commit(visit),
         6 => Row::Abort(visit),
-        _ => Row::HandOverAll(visit, Visit(wide(b[2]))),
+        _ => Row::HandOverAll(visit, receiver_in(b)),
     }
 }
 

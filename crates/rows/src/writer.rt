@@ -4,7 +4,7 @@ ghost use Prim.Native.Nat.{_≤_};
 ghost use lib.ListN.{length};
 ghost use Rattle.book.specs.Limits.{kindLimit, rowLength};
 ghost use Rattle.book.specs.RowBytes.{rowBytes};
-ghost use Rattle.rows.specs.Meaning.{meant, narrowed};
+ghost use Rattle.rows.specs.Meaning.{meant};
 ghost use Rattle.rows.specs.Table.{fill};
 ghost use Rattle.rows.specs.Writing.{fieldsOf, fieldBytes};
 use crate::Lsn;
@@ -87,7 +87,7 @@ fn parts_of(row: Row) -> Fields
     }
 }
 
-// The fields of row n at their places, of which the table keeps those that the kind has. Visits have one byte: their low one.
+// The fields of row n at their places, of which the table keeps those that the kind has.
 fn put(b: &mut [u8], f: Fields, n: Lsn)
     requires { ⌜ (f .kind ≤ kindLimit) × (length (now b) ≡ rowLength) ⌝ }
     ensures { λ _. ⌜ now (b .exit) ≡ fill rowLength 0 (f .kind) (fieldBytes f (n .0)) (now (b .entry)) ⌝ }
@@ -103,8 +103,8 @@ fn put(b: &mut [u8], f: Fields, n: Lsn)
         high(f.undone),
         low(f.change),
         high(f.change),
-        0,
-        0,
+        high(f.visit),
+        high(f.receiver),
         0,
         0,
         0,
@@ -116,7 +116,7 @@ fn put(b: &mut [u8], f: Fields, n: Lsn)
 // Writes row n to b, a row's 16 bytes.
 pub fn write_row(b: &mut [u8], row: Row, n: Lsn)
     requires { ⌜ length (now b) ≡ rowLength ⌝ }
-    ensures { λ _. ⌜ now (b .exit) ≡ rowBytes (n .0) (narrowed (meant row)) ⌝ }
+    ensures { λ _. ⌜ now (b .exit) ≡ rowBytes (n .0) (meant row) ⌝ }
 {
     put(b, parts_of(row), n);
 }

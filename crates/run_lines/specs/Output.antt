@@ -8,9 +8,13 @@ use lib.ListN.{length, take, drop}
 abbrev pub lineLength : ℕ
 lineLength = 35
 
--- room for the lines of any run file: at most 682, of one session with 681 calls
+-- a run file has at most so many lines: those of one session with 510 calls
+abbrev pub lineLimit : ℕ
+lineLimit = 511
+
+-- room for them
 abbrev pub outputLength : ℕ
-outputLength = 24576
+outputLength = 18432
 
 -- the output with this text from `at` on
 abbrev pub putText : List ℕ → ℕ → List ℕ → List ℕ

@@ -10,7 +10,7 @@ use lib.Dec.{eqb, leb}
 use borrow.Author.Tests.{eq-eqb, ne-eqb, le-leb, lt-leb}
 use Rattle.run_reader.specs.File.{isCallAt, areCalls, startAt, callsAt, bodyEnd, areBodies}
 
-pub calls-step : (n : ℕ) (bs : List ℕ) (at : ℕ) → 0 < n → areCalls n bs at ≡ (isCallAt bs at && areCalls (n - 1) bs (at + 6))
+pub calls-step : (n : ℕ) (bs : List ℕ) (at : ℕ) → 0 < n → areCalls n bs at ≡ (isCallAt bs at && areCalls (n - 1) bs (at + 8))
 calls-step zero bs at h = absurd (omega arith)
 calls-step (suc n) bs at h = let e : suc n - 1 ≡ n = omega arith in rw e
 

@@ -78,18 +78,18 @@ lineCount (s ∷ ss) = suc (length (s .calls)) + lineCount ss
 
 pub calls-long : (n : ℕ) (bs : List ℕ) (at : ℕ) → length (callsFrom n bs at) ≡ n
 calls-long zero bs at = refl
-calls-long (suc n) bs at = ap suc (calls-long n bs (at + 6))
+calls-long (suc n) bs at = ap suc (calls-long n bs (at + 8))
 
--- from `at` on the file has 6 bytes for each line but the openings'
-pub lines-fill : (n i at : ℕ) (bs : List ℕ) → areBodies n i at bs ≡ true → at + 6 * lineCount (sessionsFrom n i at bs) ≡ length bs + 6 * n
+-- from `at` on the file has 8 bytes for each line but the openings'
+pub lines-fill : (n i at : ℕ) (bs : List ℕ) → areBodies n i at bs ≡ true → at + 8 * lineCount (sessionsFrom n i at bs) ≡ length bs + 8 * n
 lines-fill zero i at bs e = let l = eqb-true at (length bs) e in omega arith
 lines-fill (suc n) i at bs e =
     let b = next-body n i at bs e in
     let l = lines-fill n (suc i) (bodyEnd bs i at) bs (b .others) in
     rw (calls-long (callsAt bs i) bs at) (omega arith)
 
--- so the lines of a run file are at most 682
-pub lines-in-all : (bs : List ℕ) → isRunFile bs ≡ true → lineCount (sessionsIn bs) ≤ 682
+-- so the lines of a run file are at most 511
+pub lines-in-all : (bs : List ℕ) → isRunFile bs ≡ true → lineCount (sessionsIn bs) ≤ 511
 lines-in-all bs e =
     let f = run-file bs e in
     let s = getD bs 0 0 in

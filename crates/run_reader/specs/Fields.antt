@@ -1,4 +1,4 @@
--- The test of a call's 6 bytes by their fields, as the reader makes it.
+-- The test of a call's 8 bytes by their fields, as the reader makes it.
 use Prim.Native.Nat.{ℕ}
 use mathlib.Core.Bool.{Bool}
 use lib.IntN.{ℤ}

@@ -1,12 +1,13 @@
 -- Document 01's run file: which bytes are one, and the sessions that it asks for.
-use Prim.Native.Nat.{ℕ, zero, suc, _+_, _*_}
+use Prim.Native.Nat.{ℕ, zero, suc, _+_, _*_, _/_, _%_}
 use mathlib.Core.Bool.{Bool, true, _&&_}
-use mathlib.Core.List.{List, [], _∷_}
+use mathlib.Core.List.{List, [], _∷_, _++_}
 use lib.ListN.{length, getD, take, drop}
 use lib.IntN.{ℤ, pos}
 use lib.Dec.{eqb, leb}
 use Rattle.book.specs.Lists.{eqBytes}
 use Rattle.book.specs.Numbers.{le, number, bitsOf, signed}
+use Rattle.book.specs.RowBytes.{pair}
 use Rattle.book.specs.Calls.{Call}
 use Rattle.book.specs.Power.{Fuse}
 use Rattle.state.specs.World.{fuseOfNumber}
@@ -25,15 +26,15 @@ sessionLimit = 32
 abbrev pub entryLength : ℕ
 entryLength = 8
 
--- 01: a call is 6 bytes
+-- 02, L7: "Calls in the run file become 8 bytes"
 abbrev pub callLength : ℕ
-callLength = 6
+callLength = 8
 
 -- ── A call ────────────────────────────────────────────────────────────────────────────────────────────────────────────
 
--- 01: code, visit, receiver, cell or page, change
+-- 01: code, visit, receiver, cell or page, change; 02, L7: "the two high bytes last", that of the visit and that of the receiver
 abbrev pub callFields : ℕ → ℕ → ℕ → ℕ → ℤ → List ℕ
-callFields code v r c a = code ∷ v ∷ r ∷ c ∷ le 2 (bitsOf 16 a)
+callFields code v r c a = code ∷ v % 256 ∷ r % 256 ∷ c ∷ le 2 (bitsOf 16 a) ++ (v / 256 % 256 ∷ r / 256 % 256 ∷ [])
 
 -- 01, and 02, L2 (code 9): the codes; unused bytes are zero
 unfoldable pub callBytes : Call → List ℕ
@@ -60,11 +61,18 @@ callOfCode (suc (suc (suc (suc (suc (suc (suc zero))))))) v r c a = Call.force
 callOfCode (suc (suc (suc (suc (suc (suc (suc (suc zero)))))))) v r c a = Call.read c
 callOfCode (suc (suc (suc (suc (suc (suc (suc (suc (suc n))))))))) v r c a = Call.handOverAll v r
 
--- the call that the 6 bytes from `at` on would be
-unfoldable pub callAt : List ℕ → ℕ → Call
-callAt bs at = callOfCode (getD bs at 0) (getD bs (at + 1) 0) (getD bs (at + 2) 0) (getD bs (at + 3) 0) (signed 16 (number 2 bs (at + 4)))
+-- visit and receiver of the call at `at`
+abbrev pub visitAt : List ℕ → ℕ → ℕ
+visitAt bs at = pair bs (at + 1) (at + 6)
 
--- these 6 bytes are a call
+abbrev pub receiverAt : List ℕ → ℕ → ℕ
+receiverAt bs at = pair bs (at + 2) (at + 7)
+
+-- the call that the 8 bytes from `at` on would be
+unfoldable pub callAt : List ℕ → ℕ → Call
+callAt bs at = callOfCode (getD bs at 0) (visitAt bs at) (receiverAt bs at) (getD bs (at + 3) 0) (signed 16 (number 2 bs (at + 4)))
+
+-- these 8 bytes are a call
 unfoldable pub isCallAt : List ℕ → ℕ → Bool
 isCallAt bs at = eqBytes (callBytes (callAt bs at)) (take callLength (drop at bs))
 

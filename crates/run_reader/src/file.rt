@@ -7,14 +7,14 @@ ghost use Rattle.book.specs.Numbers.{signed as signedOf};
 ghost use Rattle.state.specs.World.{allowance};
 ghost use Rattle.state.specs.Requests.{callOf};
 ghost use Rattle.run_reader.specs.Fields.{isCall};
-ghost use Rattle.run_reader.specs.File.{entryLength, callLength, callAt, isCallAt, areCalls, sessionEntryAt, fuseAt, startAt, callsAt, areBodies, isRunFile};
+ghost use Rattle.run_reader.specs.File.{entryLength, callLength, visitAt, receiverAt, callAt, isCallAt, areCalls, sessionEntryAt, fuseAt, startAt, callsAt, areBodies, isRunFile};
 use rows::Cell;
 use rows::Visit;
 use rows::numbers::index;
 use rows::numbers::read16;
 use rows::numbers::read32;
 use rows::numbers::signed;
-use rows::numbers::wide;
+use rows::numbers::word;
 use state::ram::Fuse;
 use state::ram::fuse_of_number;
 use state::requests::Request;
@@ -24,7 +24,7 @@ pub const FILE_LIMIT: usize = 4096;
 
 pub const ENTRY_LENGTH: usize = 8;
 
-pub const CALL_LENGTH: usize = 6;
+pub const CALL_LENGTH: usize = 8;
 
 const SESSION_LIMIT: usize = 32;
 
@@ -52,29 +52,44 @@ pub fn calls_at(file: &[u8], i: usize) -> usize
     read16(file, 1 + ENTRY_LENGTH * i + 6) as usize
 }
 
+// Visit and receiver of the call at `at`, each by its low byte and its high one.
+fn visit_at(file: &[u8], at: usize) -> u16
+    requires { ⌜ at + callLength ≤ length (now file) ⌝ }
+    ensures { λ r. ⌜ r ≡ visitAt (now (file .entry)) at ⌝ }
+{
+    word(file[at + 1], file[at + 6])
+}
+
+fn receiver_at(file: &[u8], at: usize) -> u16
+    requires { ⌜ at + callLength ≤ length (now file) ⌝ }
+    ensures { λ r. ⌜ r ≡ receiverAt (now (file .entry)) at ⌝ }
+{
+    word(file[at + 2], file[at + 7])
+}
+
 // The call that the bytes from `at` on would be, by their code, whatever the others are.
 pub fn call_at(file: &[u8], at: usize) -> Request
     requires { ⌜ at + callLength ≤ length (now file) ⌝ }
     ensures { λ r. ⌜ callOf r ≡ callAt (now (file .entry)) at ⌝ }
 {
-    let visit = Visit(wide(file[at + 1]));
+    let visit = Visit(visit_at(file, at));
     let cell = Cell(file[at + 3]);
     match file[at] {
         0 => Request::Begin,
         1 => Request::Begin,
         2 => Request::Change(visit, cell, signed(read16(file, at + 4))),
-        3 => Request::HandOver(visit, Visit(wide(file[at + 2])), cell),
+        3 => Request::HandOver(visit, Visit(receiver_at(file, at)), cell),
         4 => Request::Commit(visit),
         5 => Request::Abort(visit),
         6 => Request::Flush(file[at + 3]),
         7 => Request::Force,
         8 => Request::Read(cell),
-        _ => Request::HandOverAll(visit, Visit(wide(file[at + 2]))),
+        _ => Request::HandOverAll(visit, Visit(receiver_at(file, at))),
     }
 }
 
 // The fields of a call's bytes are those of a call: a known code, and the fields that it does not use are zero, so that their sum is.
-fn is_call(code: u8, visit: u8, receiver: u8, cell: u8, change: u16) -> bool
+fn is_call(code: u8, visit: u16, receiver: u16, cell: u8, change: u16) -> bool
     ensures { λ r. ⌜ r ≡ isCall code visit receiver cell (signedOf 16 change) ⌝ }
 {
     let n = change as u32;
@@ -102,8 +117,8 @@ fn is_call_at(file: &[u8], at: usize) -> bool
 {
     is_call(
         file[at],
-        file[at + 1],
-        file[at + 2],
+        visit_at(file, at),
+        receiver_at(file, at),
         file[at + 3],
         read16(file, at + 4),
     )

@@ -8,8 +8,8 @@ use lib.ListN.{length, getD}
 use Rattle.book.specs.Power.{Book}
 use Rattle.book.specs.Events.{bookAfter}
 use Rattle.state.specs.World.{World, Represents}
-use Rattle.run_reader.specs.File.{Asked, sessionEntryAt, fuseAt, callsAt, callsFrom, areBodies, isRunFile, sessionsFrom, sessionsIn}
-use Rattle.run_lines.specs.Output.{lineLength, Written}
+use Rattle.run_reader.specs.File.{Asked, callLength, sessionEntryAt, fuseAt, callsAt, callsFrom, areBodies, isRunFile, sessionsFrom, sessionsIn}
+use Rattle.run_lines.specs.Output.{lineLength, lineLimit, Written}
 use Rattle.runfile.specs.Runs.{eventsOf, linesFrom, runLines}
 use Rattle.book.specs.Cells.{zeros}
 use Rattle.runfile.specs.Play.{Plays}
@@ -28,7 +28,7 @@ session-lines file i place = ap suc (calls-counted (callsAt file i) file place)
 pub record InSessions (file : List ℕ) (s : ℕ) (given : World) (before : List ℕ) (at : ℕ) (i place : ℕ) (store : World) (out : List ℕ) (to : ℕ) : Type 0 where
   pub within : i ≤ s
   pub bodies : areBodies (s - i) i place file ≡ true
-  pub room : to + lineLength * lineCount (sessionsFrom (s - i) i place file) ≤ at + lineLength * 682
+  pub room : to + lineLength * lineCount (sessionsFrom (s - i) i place file) ≤ at + lineLength * lineLimit
   pub along : (b : Book) → Represents zeros b given
       → Along (λ x. runLines (i + 1) x (sessionsFrom (s - i) i place file)) (λ x. b) (runLines 1 b (sessionsIn file)) b store before at out to
 
@@ -45,27 +45,27 @@ module _ (file : List ℕ) (is : isRunFile file ≡ true) (given : World) (befor
         along = λ b r. rw all (along-none (λ x. runLines 1 x (sessionsIn file)) (λ x. b) b given before at r);
       }
 
-module _ (file : List ℕ) (s : ℕ) (given : World) (before : List ℕ) (at : ℕ) (fits : at + lineLength * 682 ≤ length before) where
+module _ (file : List ℕ) (s : ℕ) (given : World) (before : List ℕ) (at : ℕ) (fits : at + lineLength * lineLimit ≤ length before) where
   module _ (i place : ℕ) (store : World) (out : List ℕ) (to : ℕ) (more : i < s) (t : InSessions file s given before at i place store out to) where
     left : s - i ≡ suc (s - (i + 1))
     left = omega arith
 
-    next : sessionsFrom (s - i) i place file ≡ askedAt file i place ∷ sessionsFrom (s - (i + 1)) (i + 1) (place + 6 * callsAt file i) file
+    next : sessionsFrom (s - i) i place file ≡ askedAt file i place ∷ sessionsFrom (s - (i + 1)) (i + 1) (place + callLength * callsAt file i) file
     next =
         let k : suc i ≡ i + 1 = omega arith in
         ap (λ (m : ℕ). sessionsFrom m i place file) left ∙
-        ap (λ (j : ℕ). askedAt file i place ∷ sessionsFrom (s - (i + 1)) j (place + 6 * callsAt file i) file) k
+        ap (λ (j : ℕ). askedAt file i place ∷ sessionsFrom (s - (i + 1)) j (place + callLength * callsAt file i) file) k
 
     -- the body lies in the file
-    pub session-ends : place + 6 * callsAt file i ≤ length file
+    pub session-ends : place + callLength * callsAt file i ≤ length file
     session-ends = next-body (s - (i + 1)) i place file (rw left at (t .bodies)) .ends
 
     -- its lines fit
-    pub session-fits : to + lineLength * suc (callsAt file i) ≤ at + lineLength * 682
+    pub session-fits : to + lineLength * suc (callsAt file i) ≤ at + lineLength * lineLimit
     session-fits = let k = rw next at (t .room) in let l = calls-long (callsAt file i) file place in omega arith
 
     pub sessions-more : (store′ : World) (out′ : List ℕ) (to′ : ℕ) → Plays (eventsOf (askedAt file i place)) (i + 1) 0 store store′ out to out′ to′
-        → InSessions file s given before at (i + 1) (place + 6 * callsAt file i) store′ out′ to′
+        → InSessions file s given before at (i + 1) (place + callLength * callsAt file i) store′ out′ to′
     sessions-more store′ out′ to′ p =
         let lines = session-lines file i place in
         let wide = p .room in
@@ -79,7 +79,7 @@ module _ (file : List ℕ) (s : ℕ) (given : World) (before : List ℕ) (at : �
               let k : suc (i + 1) ≡ i + 1 + 1 = omega arith in
               ap (runLines (i + 1) x) next ∙
               ap (λ (m : ℕ). linesFrom (i + 1) 0 x (eventsOf (askedAt file i place)) ++
-              runLines m (bookAfter zeros x (eventsOf (askedAt file i place))) (sessionsFrom (s - (i + 1)) (i + 1) (place + 6 * callsAt file i) file)) k)
+              runLines m (bookAfter zeros x (eventsOf (askedAt file i place))) (sessionsFrom (s - (i + 1)) (i + 1) (place + callLength * callsAt file i) file)) k)
               (λ x. refl);
         }
 

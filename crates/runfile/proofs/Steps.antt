@@ -35,7 +35,7 @@ use Rattle.tables_model.specs.declared.Scope.{Scope}
 use Rattle.cores.specs.Lent.{blanks}
 use Rattle.sessions.proofs.Held.{represents}
 use Rattle.sessions.proofs.Demand3.{held-formatted}
-use Rattle.run_reader.specs.File.{callOfCode, callAt}
+use Rattle.run_reader.specs.File.{callOfCode, visitAt, receiverAt, callAt}
 use Rattle.book.specs.Cells.{zeros}
 
 small : Bounded 1000000 zeros
@@ -73,7 +73,7 @@ typed-call : (bs : List ℕ) (at : ℕ) → Typed (callAt bs at)
 unfolding callAt
 typed-call bs at =
     let x = number 2 bs (at + 4) in
-    typed-code (getD bs at 0) (getD bs (at + 1) 0) (getD bs (at + 2) 0) (getD bs (at + 3) 0) (signed 16 x) (amount x)
+    typed-code (getD bs at 0) (visitAt bs at) (receiverAt bs at) (getD bs (at + 3) 0) (signed 16 x) (amount x)
 
 pub call-answers : (b : Book) (bs : List ℕ) (at : ℕ) (given : World) (x : Answered) → Represents zeros b given
     → CallPost (callAt bs at) given x → Answers b (calls true (callAt bs at)) x

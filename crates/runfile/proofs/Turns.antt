@@ -1,4 +1,4 @@
--- The loop over a session's calls: after i of n calls from `place` on, what is left are those from `place + 6 * i` on. Assumes nothing.
+-- The loop over a session's calls: after i of n calls from `place` on, what is left are those from `place + callLength * i` on. Assumes nothing.
 use Prim.Native.Nat.{ℕ, suc, _+_, _*_, _-_, _≤_, _<_}
 use native.Mathlib.Omega.{arith}
 use mathlib.Core.Path.{_≡_, ap, ap₂, _∙_}
@@ -24,10 +24,10 @@ calls-counted n file place = length-map (callsFrom n file place) (calls true) �
 
 -- the lines that are left, by the book before them, and the book after them
 abbrev linesLeft : ℕ → List ℕ → ℕ → ℕ → ℕ → Book → List ℕ
-linesLeft session file place n i b = linesFrom session (i + 1) b (callEvents (n - i) file (place + 6 * i))
+linesLeft session file place n i b = linesFrom session (i + 1) b (callEvents (n - i) file (place + callLength * i))
 
 abbrev bookLeft : List ℕ → ℕ → ℕ → ℕ → Book → Book
-bookLeft file place n i b = bookAfter zeros b (callEvents (n - i) file (place + 6 * i))
+bookLeft file place n i b = bookAfter zeros b (callEvents (n - i) file (place + callLength * i))
 
 pub record InTurns (file : List ℕ) (place n session : ℕ) (given : World) (before : List ℕ) (at : ℕ) (i : ℕ) (store : World) (out : List ℕ) (to : ℕ) : Type 0 where
   pub within : i ≤ n
@@ -40,7 +40,7 @@ module _ (file : List ℕ) (place n session : ℕ) (given : World) (before : Lis
   pub turns-none : InTurns file place n session given before at 0 given before at
   turns-none =
       let all : n - 0 ≡ n = omega arith in
-      let here : place + 6 * 0 ≡ place = omega arith in
+      let here : place + callLength * 0 ≡ place = omega arith in
       record {
         within = omega arith;
         room = omega arith;
@@ -53,26 +53,26 @@ module _ (file : List ℕ) (place n session : ℕ) (given : World) (before : Lis
       }
 
   module _ (i : ℕ) (more : i < n) where
-    call-next : callEvents (n - i) file (place + 6 * i) ≡ calls true (callAt file (place + 6 * i)) ∷ callEvents (n - (i + 1)) file (place + 6 * (i + 1))
+    call-next : callEvents (n - i) file (place + callLength * i) ≡ calls true (callAt file (place + callLength * i)) ∷ callEvents (n - (i + 1)) file (place + callLength * (i + 1))
     call-next =
         let left : n - i ≡ suc (n - (i + 1)) = omega arith in
-        let next : place + 6 * i + callLength ≡ place + 6 * (i + 1) = omega arith in
-        ap (λ (m : ℕ). callEvents m file (place + 6 * i)) left ∙
-        ap (λ (q : ℕ). calls true (callAt file (place + 6 * i)) ∷ callEvents (n - (i + 1)) file q) next
+        let next : place + callLength * i + callLength ≡ place + callLength * (i + 1) = omega arith in
+        ap (λ (m : ℕ). callEvents m file (place + callLength * i)) left ∙
+        ap (λ (q : ℕ). calls true (callAt file (place + callLength * i)) ∷ callEvents (n - (i + 1)) file q) next
 
     lines-next : (b : Book) → linesLeft session file place n i b ≡
-        linesFrom session (i + 1) b (calls true (callAt file (place + 6 * i)) ∷ []) ++
-        linesLeft session file place n (i + 1) (happens zeros b (calls true (callAt file (place + 6 * i))) .book)
+        linesFrom session (i + 1) b (calls true (callAt file (place + callLength * i)) ∷ []) ++
+        linesLeft session file place n (i + 1) (happens zeros b (calls true (callAt file (place + callLength * i))) .book)
     lines-next b =
         let k : suc (i + 1) ≡ i + 1 + 1 = omega arith in
-        let e = calls true (callAt file (place + 6 * i)) in
-        let es = callEvents (n - (i + 1)) file (place + 6 * (i + 1)) in
+        let e = calls true (callAt file (place + callLength * i)) in
+        let es = callEvents (n - (i + 1)) file (place + callLength * (i + 1)) in
         ap (λ (xs : List Event). linesFrom session (i + 1) b xs) call-next ∙ lines-first b e es session (i + 1) ∙
         ap (λ (m : ℕ). linesFrom session (i + 1) b (e ∷ []) ++ linesFrom session m (happens zeros b e .book) es) k
 
     pub turns-more : (store store′ : World) (out out′ : List ℕ) (to to′ : ℕ) → at + lineLength * n ≤ length before
         → InTurns file place n session given before at i store out to
-        → Plays (calls true (callAt file (place + 6 * i)) ∷ []) session (i + 1) store store′ out to out′ to′
+        → Plays (calls true (callAt file (place + callLength * i)) ∷ []) session (i + 1) store store′ out to out′ to′
         → InTurns file place n session given before at (i + 1) store′ out′ to′
     turns-more store store′ out out′ to to′ fits t p = record {
       within = omega arith;
@@ -80,7 +80,7 @@ module _ (file : List ℕ) (place n session : ℕ) (given : World) (before : Lis
       along = λ b r.
           let k = p .room in
           let l = t .room in
-          along-more (calls true (callAt file (place + 6 * i)) ∷ []) session (i + 1) (t .along b r) p (omega arith) lines-next
+          along-more (calls true (callAt file (place + callLength * i)) ∷ []) session (i + 1) (t .along b r) p (omega arith) lines-next
           (λ x. ap (bookAfter zeros x) call-next);
     }
 
@@ -91,6 +91,6 @@ module _ (file : List ℕ) (place n session : ℕ) (given : World) (before : Lis
       record {
         room =
             let k = t .room in omega (arith, t .within, calls-counted n file place);
-        by = λ b r. along-all (t .along b r) (λ x. ap (λ (m : ℕ). linesFrom session (i + 1) x (callEvents m file (place + 6 * i))) none)
-            (λ x. ap (λ (m : ℕ). bookAfter zeros x (callEvents m file (place + 6 * i))) none);
+        by = λ b r. along-all (t .along b r) (λ x. ap (λ (m : ℕ). linesFrom session (i + 1) x (callEvents m file (place + callLength * i))) none)
+            (λ x. ap (λ (m : ℕ). bookAfter zeros x (callEvents m file (place + callLength * i))) none);
       }

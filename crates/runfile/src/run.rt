@@ -46,7 +46,7 @@ use tables_model::Scope;
 pub const INPUT_LENGTH: usize = FILE_LIMIT + 1;
 
 // Room for the lines of any run file.
-pub const OUTPUT_LENGTH: usize = 24576;
+pub const OUTPUT_LENGTH: usize = 18432;
 
 // Between two calls: what the store has in RAM, and the place of the next line.
 struct Point {

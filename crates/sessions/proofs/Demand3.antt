@@ -24,12 +24,13 @@ use Rattle.book.proofs.Lists.{foldl-append}
 use Rattle.book.proofs.Fate.{once}
 use Rattle.book.proofs.Sound.{TypedEvents, stored-allowed, sound-formatted}
 use Rattle.book.proofs.Claims.{grows-events}
+use Rattle.book.proofs.Visits.{never-six}
 use Rattle.book.proofs.Openings.{holds-ready}
 use Rattle.book.proofs.Pages.{Bounded}
 use Rattle.state.specs.World.{World, rightLengths}
 use Rattle.state.specs.Contracts.{cellsOf, withPage}
 use Rattle.state.proofs.FormattedStores.{Formatted, new-charts, newCharts, formatted-store}
-use Rattle.sessions.specs.Host.{Opening, Called, Step, opened, called, steps, eventOf, worldAfter, worldAfterAll, callsFollow, writesOf, Host}
+use Rattle.sessions.specs.Host.{Opening, Called, Step, opened, called, steps, answerOf, eventOf, worldAfter, worldAfterAll, callsFollow, writesOf, Host}
 use Rattle.sessions.specs.Demand3.{bookOf, logOf, Lasts, Begun, Rises, Wrote, Holds, Demand3, isFlushDone}
 use Rattle.sessions.proofs.Held.{Held, held-world, ByBook}
 use Rattle.sessions.proofs.Along.{typed, book-append, At, first, reach, answered, step-counts, flushes-counted, at-first}
@@ -173,6 +174,14 @@ module _ (cells : ℕ → ℤ) (small : Bounded 1000000 cells) (own : World) (ss
       (begin-rises cells (bookOf cells xs) (rightLengths (c .given)) (call-sound xs ys (called d ∷ zs) c Call.begin e k) (call-done xs ys (called d ∷ zs) c Call.begin e k zero′)
       (map eventOf ys) (later-typed xs ys (called d ∷ zs) c Call.begin e k) len (ap (λ (x : Answer). x .number) (sym answers) ∙ zero″)))
 
+  -- ── Refusal 6 ───────────────────────────────────────────────────────────────────────────────────────────────────────
+
+  never-answered : (xs ys : List Step) (s : Step) → ss ≡ xs ++ (s ∷ ys) → answerOf s .number ≢ 6
+  never-answered xs ys s e six =
+      let a = there xs (s ∷ ys) e in
+      let answers = first cells small (bookOf cells xs) (worldAfterAll own xs) _ s ys a .answers in
+      never-six cells (bookOf cells xs) (eventOf s) (a .held .sound) (ap (λ (x : Answer). x .number) (sym answers) ∙ six)
+
   -- ── The counts of a session ─────────────────────────────────────────────────────────────────────────────────────────
 
   adds-up : (xs ys zs : List Step) (o : Opening) → ss ≡ xs ++ (opened o ∷ (ys ++ zs)) → rightLengths (o .given) ≡ true → NoStart (map eventOf ys)
@@ -223,6 +232,7 @@ module _ (cells : ℕ → ℤ) (small : Bounded 1000000 cells) (own : World) (ss
     commits = lasts;
     begins = begins;
     numbers-rise = rises;
+    never-six = never-answered;
     undone = its-undone;
     once = λ xs ys e. once (logOf cells xs) (stored-allowed (bookOf cells xs) (there xs ys e .held .sound));
     ready = ends-ready;

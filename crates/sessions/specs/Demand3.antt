@@ -92,6 +92,8 @@ pub record Holds (cells : ℕ → ℤ) (own : World) (ss : List Step) : Type 0 w
   -- "so no number is given to two visits between formats": of two begins answered done the later one has the higher number
   pub numbers-rise : (xs ys zs : List Step) (c d : Called) → ss ≡ xs ++ (called c ∷ (ys ++ (called d ∷ zs))) → c .call ≡ Call.begin → d .call ≡ Call.begin →
       c .result .answer .number ≡ 0 → d .result .answer .number ≡ 0 → Rises (c .result .answer) (d .result .answer)
+  -- 02, L7: "Since each begin takes one of 4,096 rows, refusal 6 never occurs any more in 01's sessions"
+  pub never-six : (xs ys : List Step) (s : Step) → ss ≡ xs ++ (s ∷ ys) → answerOf s .number ≢ 6
   -- "After a ready opening a logged change has an undo row exactly when it isn't in the sum."
   pub undone : (xs ys : List Step) (o : Opening) → ss ≡ xs ++ (opened o ∷ ys) → o .result .answer .number ≡ 0 →
       (x : Change) → Logged (logOf cells (xs ++ (opened o ∷ []))) x →

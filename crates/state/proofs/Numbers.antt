@@ -1,14 +1,15 @@
--- Each number that is listed for a call occurs (specs/Numbers), by an example. Most are computed; 255 visits and a full log are reached by induction.
+-- Each number that is listed for a call occurs (specs/Numbers), by an example, but for 6. Most are computed; a full log is reached by induction.
 use Prim.Native.Nat.{ℕ, zero, suc, _+_, _-_, _<_}
 use native.Mathlib.Omega.{arith}
-use mathlib.Core.Path.{_≡_, refl, ap, sym, subst}
+use mathlib.Core.Path.{_≡_, refl, ap, sym, subst, _∙_}
+use mathlib.Core.Logic.{_≢_}
 use mathlib.Core.Bool.{Bool, true, false, _&&_, _||_}
 use mathlib.Core.List.{List, [], _∷_, _++_, map}
 use lib.ListN.{replicate}
 use lib.IntN.{pos}
 use lib.Dec.{eqb}
-use borrow.Author.Tests.{eqb-true, eq-eqb, le-leb, lt-leb}
-use Rattle.book.specs.Lists.{member, tabulate}
+use borrow.Author.Tests.{eqb-true, ne-eqb, le-leb}
+use Rattle.book.specs.Lists.{member, without, tabulate}
 use Rattle.book.specs.Rows.{Row}
 use Rattle.book.specs.Ledger.{Change, Ledger, after}
 use Rattle.book.specs.Rules.{reserve, scopesInUse}
@@ -17,10 +18,11 @@ use Rattle.book.specs.Power.{Book, Fuse, none, left, formatted, force, add}
 use Rattle.book.specs.Book.{takeBack, refusal, adds, through, value, accepted, call, reopened, reopen, opening}
 use Rattle.book.specs.Events.{Event, opens, calls}
 use Rattle.book.specs.Cells.{zeros}
-use Rattle.book.proofs.Lists.{clash, and-l, and-r}
+use Rattle.book.proofs.Lists.{clash, and-l, and-r, stays-in}
+use Rattle.book.proofs.Visits.{call-not-six}
 use Rattle.book.proofs.Sound.{TypedEvents, sound-formatted, sound-events}
 use Rattle.state.specs.Contracts.{numbers}
-use Rattle.state.specs.Numbers.{codeOf, reached, Occurs, NumbersOccur}
+use Rattle.state.specs.Numbers.{codeOf, reached, Occurs, NumbersOccur, SixNeverOccurs}
 use Rattle.state.proofs.Rounds.{At, Takes, rounds, all-rounds}
 
 -- ── An example ────────────────────────────────────────────────────────────────────────────────────────────────────────
@@ -58,58 +60,6 @@ wrong-length k = gives none [] false k 1 tt (unfold call in refl)
 closed : (k : Call) → Occurs (codeOf k) 5
 unfolding after reserve scopesInUse force add takeBack refusal adds through value accepted call reopened reopen opening
 closed k = gives (left 0) (calls true Call.begin ∷ []) true k 5 (omega arith) refl
-
--- ── 255 visits ────────────────────────────────────────────────────────────────────────────────────────────────────────
-
--- so many rows and begins, and these visits are active
-abbrev begun : ℕ → ℕ → List ℕ → Ledger
-begun n i active = record { rows = n; begun = i; active = active; committed = []; undoing = []; undone = []; changes = [] }
-
--- i visits that began and were aborted, and one more that began
-abbrev allEnded : ℕ → Ledger
-allEnded i = begun (i + i) i []
-
-abbrev oneActive : ℕ → Ledger
-oneActive i = begun (suc (i + i)) (suc i) (suc i ∷ [])
-
-takes-begin : (i : ℕ) → i < 255 → Takes (allEnded i) Call.begin (oneActive i)
-unfolding refusal adds after reserve
-takes-begin i h = record {
-  row = Row.begin (suc i);
-  typed = tt;
-  end = tt;
-  ok = λ s w e. rw (e, lt-leb 255 i (omega arith), le-leb 2 (4096 - (i + i)) (omega arith));
-  rows = λ s w e. rw e;
-  comes = refl;
-}
-
-takes-abort : (i : ℕ) → i < 255 → Takes (oneActive i) (Call.abort (suc i)) (allEnded (suc i))
-unfolding refusal adds after takeBack
-takes-abort i h =
-    let same = eq-eqb (suc i) (suc i) refl in record {
-      row = Row.abort (suc i);
-      typed = tt;
-      end = tt;
-      ok = λ s w e. rw (e, same);
-      rows = λ s w e. rw (e, same);
-      comes = rw same (ap (λ (n : ℕ). begun n (suc i) []) (omega arith));
-    }
-
-abbrev visits : ℕ → List Call
-visits n = rounds (λ i. Call.begin) (λ i. Call.abort (suc i)) n 0
-
-opened : At (allEnded 0) (afterCalls [])
-unfolding after force add takeBack reopened reopen opening
-opened = record { sound = sound-events zeros formatted (opens true none ∷ []) sound-formatted (tt, tt); stored = []; waiting = []; is = refl; comes = refl }
-
-visits-used-up : (n : ℕ) → n + 0 ≡ 255 → Occurs 1 6
-visits-used-up n e = found (visits n) Call.begin 6 all (refuses _ all)
-  where
-    all : At (allEnded 255) (afterCalls (visits n))
-    all = rw e at (all-rounds (λ i. Call.begin) (λ i. Call.abort (suc i)) allEnded oneActive 255 takes-begin takes-abort n 0 _ (omega arith) opened)
-
-    refuses : (b : Book) → At (allEnded 255) b → call zeros b true Call.begin .answer .number ≡ 6
-    refuses b a = unfold call refusal in (rw (a .is, a .comes))
 
 -- ── A full log ────────────────────────────────────────────────────────────────────────────────────────────────────────
 
@@ -230,10 +180,10 @@ typed-scopes : (n from : ℕ) → TypedEvents (map (calls true) (scopes n from))
 typed-scopes zero from = tt
 typed-scopes (suc n) from = (tt, typed-scopes n (suc from))
 
-of-begin : Each (Occurs 1) (0 ∷ 1 ∷ 5 ∷ 6 ∷ 7 ∷ 8 ∷ [])
+of-begin : Each (Occurs 1) (0 ∷ 1 ∷ 5 ∷ 7 ∷ 8 ∷ [])
 unfolding after reserve scopesInUse force add takeBack refusal adds through value accepted call reopened reopen opening
 of-begin =
-    computed [] Call.begin 0 (omega arith) refl and wrong-length Call.begin and closed Call.begin and visits-used-up 255 refl and
+    computed [] Call.begin 0 (omega arith) refl and wrong-length Call.begin and closed Call.begin and
     computed (replicate 16 Call.begin) Call.begin 7 (omega arith) refl and no-room 2044 refl .0 and end
 
 of-change : Each (Occurs 2) (0 ∷ 1 ∷ 5 ∷ 9 ∷ 10 ∷ 11 ∷ 8 ∷ [])
@@ -287,9 +237,10 @@ of-handOverAll =
     computed two k 0 (omega arith) refl and wrong-length k and closed k and computed [] k 9 (omega arith) refl and
     computed two (Call.handOverAll 1 1) 12 (omega arith) refl and computed two (Call.handOverAll 2 1) 13 (omega arith) refl and no-room 2044 refl .3 and end
 
--- numbers with an example, and a list of no others
-by-examples : {P : ℕ → Type 0} {ns : List ℕ} → Each P ns → (ms : List ℕ) → within ms ns ≡ true → (n : ℕ) → member n ms ≡ true → P n
-by-examples {P} {ns} ps ms h n e = shown ps n (member-within ms ns h n e)
+-- numbers with an example, and a list of no others but 6
+by-examples : {P : ℕ → Type 0} {ns : List ℕ} → Each P ns → (ms : List ℕ) → within (without 6 ms) ns ≡ true → (n : ℕ) → member n ms ≡ true → n ≢ 6 → P n
+by-examples {P} {ns} ps ms h n e d =
+    shown ps n (member-within (without 6 ms) ns h n (stays-in n 6 ms (ne-eqb 6 n (λ q. d (sym q))) ∙ e))
 
 pub numbers-occur : NumbersOccur
 unfolding NumbersOccur
@@ -302,3 +253,7 @@ numbers-occur Call.force = by-examples of-force (numbers Call.force) refl
 numbers-occur (Call.flush p) = by-examples of-flush (numbers (Call.flush p)) refl
 numbers-occur (Call.read c) = by-examples of-read (numbers (Call.read c)) refl
 numbers-occur (Call.handOverAll g r) = by-examples of-handOverAll (numbers (Call.handOverAll g r)) refl
+
+pub six-never-occurs : SixNeverOccurs
+unfolding SixNeverOccurs
+six-never-occurs code o = call-not-six zeros (reached (o .fuse) (o .before)) (o .lengths) (o .asked) (o .sound) (o .number)

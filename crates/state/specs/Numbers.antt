@@ -1,7 +1,9 @@
--- Each number that `numbers` lists (specs/Contracts) is answered; `CallPost` says that a call answers with no other.
+-- Each number that `numbers` lists (specs/Contracts) is answered in some sessions, but for 6, which is answered in none; `CallPost` says that a call answers
+-- with no other.
 use Prim.Native.Nat.{ℕ}
 use mathlib.Core.Bool.{Bool, true}
 use mathlib.Core.Path.{_≡_}
+use mathlib.Core.Logic.{_≢_}
 use mathlib.Core.List.{List, _∷_}
 use Rattle.book.specs.Lists.{member}
 use Rattle.book.specs.Calls.{Call}
@@ -39,4 +41,8 @@ pub record Occurs (code n : ℕ) : Type 0 where
   pub number : call zeros (reached fuse before) lengths asked .answer .number ≡ n
 
 unfoldable pub NumbersOccur : Type 0
-NumbersOccur = (k : Call) (n : ℕ) → member n (numbers k) ≡ true → Occurs (codeOf k) n
+NumbersOccur = (k : Call) (n : ℕ) → member n (numbers k) ≡ true → n ≢ 6 → Occurs (codeOf k) n
+
+-- 02, L7: "refusal 6 never occurs any more in 01's sessions". It stays listed for a begin, since a state of the host's making may count 65,535 visits.
+unfoldable pub SixNeverOccurs : Type 0
+SixNeverOccurs = (code : ℕ) → Occurs code 6 → ⊥

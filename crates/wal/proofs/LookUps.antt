@@ -9,9 +9,8 @@ use lib.ListN.{getD}
 use lib.IntN.{ℤ}
 use lib.Dec.{eqb, leb}
 use borrow.Author.Tests.{le-leb, lt-leb, ne-eqb, leb-true, leb-false}
-use Rattle.book.specs.Numbers.{number}
 use Rattle.book.specs.Rows.{Row, begin}
-use Rattle.book.specs.RowBytes.{rowOf, rowOfKind}
+use Rattle.book.specs.RowBytes.{pair, rowOf, rowOfKind}
 use Rattle.tables_model.specs.Lookup.{isChangeBy, previous}
 use Rattle.journal.specs.Journal.{Journal}
 use Rattle.wal.specs.Looking.{rowBytesAt, rowOfPart, lookUp}
@@ -64,7 +63,7 @@ change-by-kind maker cell (suc (suc (suc (suc (suc (suc (suc k))))))) v r c u a 
     let n = suc (suc (suc (suc (suc (suc (suc k)))))) in let not-2 : eqb n 2 ≡ false = ne-eqb n 2 (λ e. omega arith) in simp (not-2, and-false)
 
 pub change-by-bytes : (b : List ℕ) (maker cell : ℕ)
-    → isChangeBy maker cell (rowOf b) ≡ (eqb (getD b 3 0) cell && (eqb (number 1 b 1) maker && eqb (getD b 0 0) 2))
+    → isChangeBy maker cell (rowOf b) ≡ (eqb (getD b 3 0) cell && (eqb (pair b 1 10) maker && eqb (getD b 0 0) 2))
 change-by-bytes b maker cell = rw (add-zero (getD b 0 0), add-zero (getD b 3 0)) (change-by-kind maker cell (getD b 0 0) _ _ _ _ _)
 
 -- ── The search downwards ──────────────────────────────────────────────────────────────────────────────────────────────

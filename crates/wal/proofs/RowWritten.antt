@@ -12,7 +12,6 @@ use Rattle.book.specs.Rules.{allowed}
 use Rattle.book.specs.Power.{Book, Fuse, rowsOf, ledgerOf, force, add}
 use Rattle.book.specs.Pages.{chartBytes, pageAfter}
 use Rattle.book.proofs.Lists.{clash}
-use Rattle.book.proofs.LogBytes.{allowed-fits}
 use Rattle.book.proofs.Steps.{Shut, bookOf, extends-add, extends-force}
 use Rattle.charts.specs.Moves.{chartsMoved}
 use Rattle.charts.proofs.ChartMoves.{row-applied}
@@ -51,7 +50,7 @@ module _ (cells : ℕ → ℤ) (b : Book) (s : Steady b) (r : Row) (al : b .isOp
   row-appended = go (b .isOpen) refl
     where
       go : (t : Bool) → b .isOpen ≡ t → appended (journalOf b) r ≡ journalOf (add b r)
-      go true o = appended-is b r (s .shut) (s .tail) (row-room b s r (al o)) (allowed-fits (ledgerOf b) r (al o))
+      go true o = appended-is b r (s .shut) (s .tail) (row-room b s r (al o))
       go false o = appended-closed b r (s .shut) o ∙ ap journalOf (sym (extends-add b r (s .shut) .stuck o))
 
   pub written-stands : (m : Ram) → Stands cells b m → Stands cells (add b r) (written m r)

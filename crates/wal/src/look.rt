@@ -3,8 +3,7 @@ ghost use mathlib.Core.Path.{_≡_};
 ghost use Prim.Native.Nat.{_≤_};
 ghost use lib.Dec.{eqb};
 ghost use lib.ListN.{length};
-ghost use Rattle.book.specs.Numbers.{number};
-ghost use Rattle.book.specs.RowBytes.{rowOf};
+ghost use Rattle.book.specs.RowBytes.{pair, rowOf};
 ghost use Rattle.book.specs.Limits.{rowLength};
 ghost use Rattle.journal.specs.Force.{Sizes};
 ghost use Rattle.journal.specs.Journal.{journal};
@@ -17,8 +16,8 @@ use rows::Cell;
 use rows::Row;
 use rows::Visit;
 use rows::limits::ROW_LENGTH;
-use rows::numbers::wide;
 use rows::reader::row_in;
+use rows::reader::visit_in;
 use tables_model::Scope;
 
 // Row n of a part of the journal: bytes that hold `rows` rows, the first of them row `base` + 1. Of no such row any will do.
@@ -52,9 +51,10 @@ pub fn row_at(c: Control, log: &[u8], tail: &[u8], n: usize) -> Row
 // The visit of the row in these 16 bytes is the maker.
 fn is_made_by(b: &[u8], maker: Visit) -> bool
     requires { ⌜ length (now b) ≡ rowLength ⌝ }
-    ensures { λ r. ⌜ r ≡ eqb (number 1 (now (b .entry)) 1) (maker .0) ⌝ }
+    ensures { λ r. ⌜ r ≡ eqb (pair (now (b .entry)) 1 10) (maker .0) ⌝ }
 {
-    wide(b[1]) == maker.0
+    let visit = visit_in(b);
+    visit.0 == maker.0
 }
 
 // The 16 bytes are a change of the cell by the maker: cell, visit and kind alone are looked at, the cell first, since it rules most rows out.

@@ -35,16 +35,15 @@ pub const ANSWERS: Table = Table {
         (
             "begin",
             &[
-                ("done", 65_000),
+                ("done", 72_000),
                 ("1 log", 170),
                 ("1 charts", 180),
                 ("1 copy", 170),
                 ("1 scopes", 180),
-                ("5 closed", 7_500),
-                ("5 cut", 930),
-                ("6", 1_300),
-                ("7", 89),
-                ("8", 160),
+                ("5 closed", 10_000),
+                ("5 cut", 990),
+                ("7", 220),
+                ("8", 180),
             ],
         ),
         (
@@ -169,6 +168,7 @@ pub const ANSWERS: Table = Table {
                 ("15", 930),
                 ("15 for a cell of code 9", 17),
                 ("15 for a change of code 9", 37),
+                ("15 for an unused high byte", 79),
             ],
         ),
         ("redo page", &[("done", 330), ("1 log", 370), ("1 page", 220), ("14", 240)]),
@@ -183,7 +183,7 @@ pub const PAIRS: Table = Table {
     lines: &[
         ("format", &[("1 and 2", 32)]),
         ("open", &[("1 and 3", 280), ("3 and 4", 690), ("4 and 5", 30)]),
-        ("begin", &[("1 and 5", 300), ("5 and 6", 11), ("6 and 7", 64), ("7 and 8", 36)]),
+        ("begin", &[("1 and 5", 300), ("5 and 7", 93), ("7 and 8", 64)]),
         (
             "change",
             &[

@@ -23,8 +23,8 @@ pub const WRITES: Table = Table {
         (
             "begin",
             &[
-                ("its own row stored", 52_000),
-                ("rows that waited stored too", 12_000),
+                ("its own row stored", 57_000),
+                ("rows that waited stored too", 15_000),
                 ("full tail stored first", 9),
                 ("cut at the first write", 450),
                 ("cut between rows", 360),
@@ -106,10 +106,8 @@ pub const SHAPES: Table = Table {
             &[
                 ("stored log of 4,096 rows", 20),
                 ("tail of 64 rows", 1_500),
-                ("sixteen visits active", 24_000),
-                ("begin of the sixteenth active visit", 810),
-                ("255 visits begun", 710),
-                ("begin of visit 255", 12),
+                ("sixteen visits active", 31_000),
+                ("begin of the sixteenth active visit", 990),
                 ("sixty-four scopes in use", 4_200),
                 ("change that starts the sixty-fourth scope", 310),
                 ("scope grown while sixty-four are in use", 2_200),
@@ -123,17 +121,30 @@ pub const SHAPES: Table = Table {
                 ("hand-over of a whole visit with just enough free rows", 8),
                 ("hand-over of a whole visit with one free row too few", 25),
                 ("sixty-four scopes handed over at once", 62),
-                ("visit number above 255 in a call", 4_200),
+            ],
+        ),
+        (
+            "visits above 255",
+            &[
+                ("begin of visit 256", 9),
+                ("more than 255 visits begun", 4_500),
+                ("hand-over from or to a visit above 255", 120),
+                ("whole visit above 255 handed over", 82),
+                ("commit of a visit above 255", 750),
+                ("undo row of a visit above 255", 1_500),
+                ("cut while a visit above 255 is active", 21),
+                ("inactive visit with the low byte of an active one", 3_600),
+                ("two active visits with one low byte", 2),
             ],
         ),
         (
             "begins",
             &[
-                ("begin refused while rows wait", 410),
+                ("begin refused while rows wait", 190),
                 ("begin refused while 64 rows wait", 6),
                 ("begin refused while rows wait and no write is left", 3),
-                ("begin done after one that was cut", 750),
-                ("begin done after an opening ended a visit just begun", 3_000),
+                ("begin done after one that was cut", 800),
+                ("begin done after an opening ended a visit just begun", 3_600),
             ],
         ),
         (

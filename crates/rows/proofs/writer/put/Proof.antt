@@ -6,9 +6,12 @@ use Rattle.rows.proofs.writer.put.Tie as tie
 
 returns : tie.Need-returns
 returns c =
-    let p = c .before .before .before .before .before .before in
+    let q = c .before .before .before .before .before .before in
+    let p = q .before .before in
     c .before .before .put-by-table .ensures
     ∙ rw (
+      q .high5 .ensures,
+      q .before .high4 .ensures,
       p .high3 .ensures,
       p .before .low5 .ensures,
       p .before .before .high2 .ensures,
@@ -23,6 +26,8 @@ pub put-spec : {M : Type 1} → statement M
 put-spec =
     tie.close
     (tie.spec
+    (λ c κs. search needs)
+    (λ c κs. search needs)
     (λ c κs. search needs)
     (λ c κs. search needs)
     (λ c κs. search needs)

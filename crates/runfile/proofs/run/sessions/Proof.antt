@@ -5,8 +5,8 @@ use native.Mathlib.Omega.{arith}
 use borrow.Author.Needs.{needs}
 use lib.ListN.{length, getD}
 use Rattle.state.specs.World.{world}
-use Rattle.run_reader.specs.File.{callsAt}
-use Rattle.run_lines.specs.Output.{lineLength}
+use Rattle.run_reader.specs.File.{callLength, callsAt}
+use Rattle.run_lines.specs.Output.{lineLength, lineLimit}
 use Rattle.run_reader.proofs.RunFiles.{RunFile, run-file, entry-within}
 use Rattle.runfile.proofs.Sessions.{InSessions, sessions-none, session-ends, session-fits, sessions-more, sessions-all}
 use Rattle.runfile.proofs.run.sessions.Statement.{statement}
@@ -24,7 +24,7 @@ abbrev μ-loop : tie.MeasureT-loop
 is-file : (s : tie.Start Inv-loop μ-loop) → RunFile (s .args .file .now)
 is-file s = run-file _ (s .pre .0)
 
-in-output : (s : tie.Start Inv-loop μ-loop) → s .args .point .at + lineLength * 682 ≤ length (s .args .out .now)
+in-output : (s : tie.Start Inv-loop μ-loop) → s .args .point .at + lineLength * lineLimit ≤ length (s .args .out .now)
 in-output s = omega (arith, s .pre .1, s .pre .2)
 
 -- ── Before the loop ───────────────────────────────────────────────────────────────────────────────────────────────────
@@ -51,11 +51,11 @@ is-entry t = omega (arith, t .loop-test .taken, t .before .before .index .ensure
 
 -- the body lies in the file, and its lines in the output
 ends : (t : tie.In-loop Inv-loop μ-loop)
-    → t .before .loop .place + 6 * callsAt (start t .args .file .now) (t .before .loop .i) ≤ length (start t .args .file .now)
+    → t .before .loop .place + callLength * callsAt (start t .args .file .now) (t .before .loop .i) ≤ length (start t .args .file .now)
 ends t = let l = t .before .loop in session-ends _ _ _ _ _ (in-output (start t)) (l .i) (l .place) _ _ _ (t .loop-test .taken) (l .inv .0)
 
 fits : (t : tie.In-loop Inv-loop μ-loop)
-    → t .before .loop .p .at + lineLength * suc (callsAt (start t .args .file .now) (t .before .loop .i)) ≤ start t .args .point .at + lineLength * 682
+    → t .before .loop .p .at + lineLength * suc (callsAt (start t .args .file .now) (t .before .loop .i)) ≤ start t .args .point .at + lineLength * lineLimit
 fits t = let l = t .before .loop in session-fits _ _ _ _ _ (in-output (start t)) (l .i) (l .place) _ _ _ (t .loop-test .taken) (l .inv .0)
 
 fuse-at-requires : tie.Need-fuse-at-requires Inv-loop μ-loop
