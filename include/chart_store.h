@@ -42,7 +42,7 @@
  * Where the part cannot store 16 or 32 bytes as one, as on a bus of 32 bits, it takes hold-up energy for the few microseconds of one row or page, and a
  * processor that is not stopped inside one: for instance, after the warning the host starts no further call, and the one that runs returns on the capacitor.
  * Without that such a part must not be used: a page that is torn between its mark and its cells is not seen by the check of an opening, and a committed
- * change is then missing or counted twice.
+ * change is then missing or counted twice; and a commit row of a visit above 255 that is torn before its byte 10 may commit another visit.
  *
  * Which processor
  *

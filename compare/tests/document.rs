@@ -273,7 +273,7 @@ fn visits_above_255_in_a_run_file() {
         Call::Read { cell: 3 },
     ];
     let file = write(&[vec![begins; 16], vec![Session { fuse: None, calls }]].concat());
-    // Visit 257, and the bytes of 258 in the hand-over: the low ones at 1 and 2, the high ones at 6 and 7.
+    // The hand-over from 257 to 258: the low bytes at 1 and 2, the high ones at 6 and 7.
     assert_eq!(file[file.len() - 32..][..8], [3, 1, 2, 3, 0, 0, 1, 1]);
     let last = "17 0 0 16 16 0
 17 1 0 257 1 0

@@ -22,7 +22,7 @@ fn stored<'a>(a: &'a Arena, n: usize) -> &'a [u8] {
 
 pub const WIDE_VISITS: [Case; 5] = [
     Case {
-        name: "visit 256 begins after 255, and is handed over to by two bytes",
+        name: "visit 256 begins after 255, and hands over to 257, both by two bytes",
         play: |a| {
             ready(a, 0)?;
             committed(a, 1, 255, 0)?;
@@ -90,7 +90,7 @@ pub const WIDE_VISITS: [Case; 5] = [
         },
     },
     Case {
-        name: "a high byte that a kind has not, or of a visit that is not active: 3",
+        name: "a high byte that a kind has not, or that makes it the row of another visit: 3",
         play: |a| {
             let rows =
                 [row(BEGIN, 1, 1), row(BEGIN, 2, 2), change_row(1, 0, 5, 3), hand_over_row(1, 2, 0, 4)];

@@ -1,13 +1,14 @@
 -- Calls at the limits of document 01: the last call that is accepted, and the number that the next one is refused by. All hold by computing, those over
 -- a full log from what its rows come to. Cell 224 of a change, the 17th begin and one visit's 2,048th change are among the marked cases (Cases).
 use mathlib.Core.Path.{_≡_, refl}
-use mathlib.Core.Bool.{true}
+use mathlib.Core.Bool.{true, false}
 use mathlib.Core.List.{List, [], _∷_, _++_, map, append-nil}
 use lib.ListN.{replicate, take}
 use lib.IntN.{pos}
 use Rattle.book.specs.Lists.{tabulate}
 use Rattle.book.specs.Rows.{Row}
 use Rattle.book.specs.Rules.{allowedLog}
+use Rattle.book.specs.OldLogs.{oldFits, oldAllowedLog}
 use Rattle.book.specs.Calls.{Call}
 use Rattle.book.specs.Power.{Book, Fuse, left, formatted, closed}
 use Rattle.book.specs.Book.{refused, done, refusedBy}
@@ -226,3 +227,9 @@ abort-with-3-free = rw (append-nil rows4093, comes-4093) refl
 pub logs-allowed : map allowedLog (committedVisits 255 ∷ someEnded ∷ handedBack ∷ lastCell ∷ []) ≡ replicate 4 true
 unfolding computes
 logs-allowed = refl
+
+-- 02, L7: "Old logs mean the same." They were allowed before, with visits up to 255 and no further.
+pub old-logs-allowed :
+    map oldAllowedLog (committedVisits 255 ∷ someEnded ∷ handedBack ∷ lastCell ∷ committedVisits 256 ∷ []) ≡ replicate 4 true ++ (false ∷ [])
+unfolding computes oldFits
+old-logs-allowed = refl

@@ -17,6 +17,7 @@ use Rattle.book.specs.Book.{Answer, answer, done}
 use Rattle.book.specs.Numbers.{within}
 use Rattle.book.specs.RowBytes.{kindOf, rowBytes}
 use Rattle.book.specs.LogBytes.{logBytes, rowsBytes, Log, good, bad, readRows}
+use Rattle.book.specs.OldLogs.{oldFits}
 use Rattle.book.specs.Pages.{pageBytes, chartBytes, pageAt, pageAfter, cellOf, isPage, redone}
 use Rattle.book.specs.Opening.{noCopy, checked}
 use Rattle.book.proofs.WorkedExamples.{computes}
@@ -66,6 +67,11 @@ pub wide-visits : map (rowBytes 258) wideVisits ≡
     []
 unfolding computes
 wide-visits = refl
+
+-- 02, L7: "Old logs mean the same." Rows with visits of one byte stood in them, those with visits of two did not.
+pub old-rows-fit : map oldFits (eachKind ++ wideVisits) ≡ replicate 7 true ++ replicate 7 false
+unfolding computes oldFits
+old-rows-fit = refl
 
 -- what is read in the bytes of n rows
 abbrev read : ℕ → List ℕ → Log

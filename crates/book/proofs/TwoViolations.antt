@@ -1,5 +1,5 @@
 -- Document 01, "Refusals by place, in checking order", with the line of document 02, L2: for each two neighbours of a line of the table, something that both rule
--- out, and the number of the first. All hold by computing, those over a full log from what its rows come to.
+-- out, and the number of the first; 6 and 7 of a begin are in VisitsUsedUp. All hold by computing, those over a full log from what its rows come to.
 -- Commit, abort, flush and read have one number of their own. Two neighbours cannot be told apart: a giver and a receiver that are not active are both
 -- refused by 9, and a receiver that is not active and is the giver too (12) is a giver that is not active. So the receiver's 9 is compared with the number after 12.
 use Prim.Native.Nat.{ℕ, _+_, _*_}

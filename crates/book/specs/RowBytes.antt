@@ -19,7 +19,7 @@ kindOf (Row.abort v) = 6
 kindOf (Row.handOverAll g r) = 7
 
 -- 01: a constant table says, for each kind and byte, whether it may be other than zero. The line of kind 0 is that of a blank row; that of kind 7 is 02, L2's: "giver
--- and receiver, cell zero".
+-- and receiver, cell zero". Bytes 10 and 11 are 02, L7's: the high bytes of visit and receiver.
 abbrev pub mayBeSet : List (List ℕ)
 mayBeSet =
     (0 ∷ 0 ∷ 0 ∷ 0 ∷ 0 ∷ 0 ∷ 0 ∷ 0 ∷ 0 ∷ 0 ∷ 0 ∷ 0 ∷ 0 ∷ 0 ∷ 0 ∷ 0 ∷ []) ∷

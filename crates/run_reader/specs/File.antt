@@ -48,7 +48,7 @@ callBytes Call.force = callFields 7 0 0 0 (pos 0)
 callBytes (Call.read c) = callFields 8 0 0 c (pos 0)
 callBytes (Call.handOverAll g r) = callFields 9 g r 0 (pos 0)
 
--- the call of a code with these callFields; of no such code any call will do, since `isCallAt` compares the bytes
+-- the call of a code with these fields; of no such code any call will do, since `isCallAt` compares the bytes
 abbrev pub callOfCode : ℕ → ℕ → ℕ → ℕ → ℤ → Call
 callOfCode zero v r c a = Call.begin
 callOfCode (suc zero) v r c a = Call.begin
