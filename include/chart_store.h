@@ -21,7 +21,7 @@
  *
  * Nothing else is asked: a log, charts, cells or a page of another length are refused (CHART_WRONG_LENGTH), and no argument and no contents of RAM, log,
  * charts and page can make a call trap, run on or write elsewhere. A refused call changes no byte, but for the calls in which the power fails (CHART_CLOSED)
- * and the openings that reject the store (CHART_BAD_ROW, CHART_BAD_PAGE): they leave every byte of RAM 0.
+ * and the openings that reject the store (CHART_WRONG_BYTES, CHART_BREAKS_RULE, CHART_OVER_LIMIT, CHART_BAD_PAGE): they leave every byte of RAM 0.
  *
  * What the memory of log and charts must do
  *
@@ -63,7 +63,7 @@ extern "C" {
 #endif
 
 /* Of this header. The archive does not know it: link the two from one version. */
-#define CHART_VERSION 6
+#define CHART_VERSION 7
 
 /* ---- Limits ---- */
 
@@ -127,7 +127,7 @@ enum {
     CHART_DONE = 0,
     CHART_WRONG_LENGTH = 1,    /* log or charts have another length, or a format other than CHART_CELLS cells; redo page: log or page have another length */
     CHART_OUT_OF_RANGE = 2,    /* format: a cell beyond 1,000,000 g either way; the value is the first such cell */
-    CHART_BAD_ROW = 3,         /* open: a row that is not allowed, or a byte after the end; the value is its row. The store is closed; log and charts are unchanged */
+    CHART_WRONG_BYTES = 3,     /* open: the first row that is not allowed has an unknown kind, a byte set that must be 0, or another own number, or stands after the end; the value is the row. The store is closed; log and charts are unchanged */
     CHART_BAD_PAGE = 4,        /* open: a page with a mark that is no row of it, bytes 2-3 not 0, or a cell out of bounds; the value is the page. Else as 3 */
     CHART_CLOSED = 5,          /* the store is closed, or the power failed in this call (the fuse burnt) and it is closed now, or RAM was altered and its counters are beyond their limits: open it again */
     CHART_VISITS_USED_UP = 6,  /* begin: 65,535 visits were begun. Only RAM that was altered says so: no log has so many rows */
@@ -138,7 +138,9 @@ enum {
     CHART_SCOPES_USED_UP = 11, /* change: 64 scopes are in use */
     CHART_SAME_VISIT = 12,     /* hand over, hand over all: giver and receiver are the same visit */
     CHART_HOLDS_NONE = 13,     /* hand over: the giver holds no change of the cell; hand over all: it holds no change at all */
-    CHART_NO_SUCH_PAGE = 14    /* flush, redo page: the page is above 31 */
+    CHART_NO_SUCH_PAGE = 14,   /* flush, redo page: the page is above 31 */
+    CHART_BREAKS_RULE = 16,    /* open: the bytes of the first row that is not allowed are right, and it breaks a rule on visits, cells, holders or undo rows. Else as 3 */
+    CHART_OVER_LIMIT = 17      /* open: that row breaks no such rule, and is beyond 16 active visits, 64 scopes or the free rows. Else as 3 */
 };
 
 /* A refusal number in words, for a message. */
@@ -147,7 +149,7 @@ static inline const char *chart_text(int number) {
     case CHART_DONE: return "done";
     case CHART_WRONG_LENGTH: return "a buffer has another length";
     case CHART_OUT_OF_RANGE: return "a cell is beyond 1,000,000 g";
-    case CHART_BAD_ROW: return "a row of the log is not allowed";
+    case CHART_WRONG_BYTES: return "a row of the log has wrong bytes";
     case CHART_BAD_PAGE: return "a page does not go with the log";
     case CHART_CLOSED: return "the store is closed";
     case CHART_VISITS_USED_UP: return "all 65,535 visits are used up";
@@ -159,7 +161,20 @@ static inline const char *chart_text(int number) {
     case CHART_SAME_VISIT: return "giver and receiver are the same visit";
     case CHART_HOLDS_NONE: return "the giver holds no change to hand over";
     case CHART_NO_SUCH_PAGE: return "there is no such page";
+    case CHART_BREAKS_RULE: return "a row of the log breaks a rule";
+    case CHART_OVER_LIMIT: return "a row of the log is beyond a limit";
     default: return "not a number of this store";
+    }
+}
+
+/* For service staff: what a rejected log points to, in one sentence; empty for every other number. It is a hint and no proof: a byte that changed by itself can
+ * make a well-formed row of another visit, and a log in another layout has wrong bytes. */
+static inline const char *chart_service_hint(int number) {
+    switch (number) {
+    case CHART_WRONG_BYTES: return "These bytes are no row of this store: suspect the memory chip or its supply, and if it is row 1, a log in another layout.";
+    case CHART_BREAKS_RULE: return "The row is well formed, but does not follow from the rows before it: suspect other firmware, or rows of two logs, before the chip.";
+    case CHART_OVER_LIMIT: return "The row is in order but for 16 visits, 64 scopes or the free rows: suspect firmware with other limits, not the chip.";
+    default: return "";
     }
 }
 
@@ -200,7 +215,7 @@ static inline chart_answer chart_format(const chart_store *s, const int32_t *cel
 /* Opens the store: checks log and pages, brings the copy of the charts up to the log, undoes what no visit committed, and ends the visits that were active.
  * It comes first after every start, and may come at any time; what was in RAM is lost. The fuse is CHART_NO_FUSE, or the number of stored writes that still
  * land in this session, for tests of a power failure: the write after the last one is not made and the call answers CHART_CLOSED.
- * Value: the rows that it wrote. Refusals 1, 3, 4, 5. */
+ * Value: the rows that it wrote. Refusals 1, then 3, 16 or 17, 4, 5. Of the first row that is not allowed 3 comes before 16, and 16 before 17. */
 static inline chart_answer chart_open(const chart_store *s, uint32_t fuse) { return chart_open_on(CHART_OF(s), fuse); }
 
 /* Begins a visit, and stores the rows that wait, then its own, 65 at most: once this has answered done, its number is given to no other visit until the store

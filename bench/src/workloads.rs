@@ -7,7 +7,7 @@ use compare::store::CELLS;
 pub type Workload = fn(&mut Script);
 
 /// All workloads by their names, in the order of the reports.
-pub const WORKLOADS: [(&str, Workload); 33] = [
+pub const WORKLOADS: [(&str, Workload); 34] = [
     ("format", format),
     ("read", read),
     ("begin", begin),
@@ -39,6 +39,7 @@ pub const WORKLOADS: [(&str, Workload); 33] = [
     ("commit, power fails in its force", cut_commit),
     ("open: power fails in its undo rows", cut_open),
     ("open: rejected for its last row", bad_row),
+    ("open: rejected for a rule in its last row", broken_rule),
     ("open: rejected for its last page", bad_page),
     ("a page alone: 4,096 committed rows", page_alone),
 ];
@@ -286,6 +287,15 @@ fn bad_row(script: &mut Script) {
     script.prepare([WriteLog(65_535, 1)]);
     script.measure([Open; 3]);
     script.prepare([WriteLog(65_535, 0), Open]);
+}
+
+/// A full log, of which the last row commits a visit that has not begun.
+fn broken_rule(script: &mut Script) {
+    script.number = 16;
+    committed(script);
+    script.prepare([WriteLog(65_521, 97)]);
+    script.measure([Open; 3]);
+    script.prepare([WriteLog(65_521, 96), Open]);
 }
 
 /// A full log, and byte 2 of page 31 not as it should be.

@@ -253,7 +253,7 @@ impl<'a> Arena<'a> {
         self.sound |= answer.number != 1;
         let before = self.after()?;
         self.powered(power::counted(answer.writes, self.moment.stored - stored, 0))?;
-        if let 1 | 3 | 4 = answer.number {
+        if let 1 | 3 | 16 | 17 | 4 = answer.number {
             let holding = conditions::of_opening(lent, &self.paper.log, &self.paper.charts, fuse);
             self.first_condition("open", &holding, answer)?;
         } else {

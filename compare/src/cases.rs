@@ -12,6 +12,8 @@ pub mod full_tails;
 pub mod garbage;
 pub mod limits;
 pub mod pages_alone;
+pub mod reasons;
+pub mod rejected_logs;
 pub mod row_bytes;
 pub mod rows;
 pub mod runfiles;
@@ -36,7 +38,7 @@ pub struct Part {
     pub play: fn(&mut Bench, u64) -> Result<(), Failure>,
 }
 
-pub const PARTS: [Part; 17] = [
+pub const PARTS: [Part; 18] = [
     Part {
         name: "document",
         about: "the cases of documents 01 and 02, with their answers",
@@ -68,6 +70,12 @@ pub const PARTS: [Part; 17] = [
         play: row_bytes::play,
     },
     Part { name: "damage", about: "damaged logs and pages", seeds: [880, 8_000], play: damage::play },
+    Part {
+        name: "rejected logs",
+        about: "logs refused for wrong bytes, a rule, a limit, or several of them",
+        seeds: [400, 4_000],
+        play: rejected_logs::play,
+    },
     Part {
         name: "garbage",
         about: "arbitrary states, tables and buffers",

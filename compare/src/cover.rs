@@ -1,7 +1,7 @@
-//! What the cases have met: every refusal of 01's table, with the line that request L2 of 02 adds to it, and
-//! of a page redone alone (L3), by its place, two refusals at once, stored writes and the places where power
-//! failed, and shapes of stores and calls in which errors of this trade show. A comparison that meets one of
-//! them less often than `floors.rs` asks does not count. `observe.rs` finds out what was met.
+//! What the cases have met: every refusal of 01's table, with the lines that requests L2 and L8 of 02 add to
+//! it, and of a page redone alone (L3), by its place, two refusals at once, stored writes and the places where
+//! power failed, and shapes of stores and calls in which errors of this trade show. A comparison that meets
+//! one of them less often than `floors.rs` asks does not count. `observe.rs` finds out what was met.
 
 mod floors;
 

@@ -159,7 +159,8 @@ pub fn open(ram: &mut Ram, lent: &mut Lent, fuse: Fuse) -> Answer {
 /// The checks of an opening, and the copy as it is before the opening goes backward; gives the rows of the
 /// log. Before it tables and scopes are those of no rows; where nothing is refused, after it those of the log.
 pub fn forward(tables: &mut Tables, lent: &mut Lent) -> Result<u16, Answer> {
-    let stored = check_log(tables, lent.scopes, lent.log).map_err(|row| refused_at(3, row))?;
+    let stored =
+        check_log(tables, lent.scopes, lent.log).map_err(|(number, row)| refused_at(number, row))?;
     let rows = Rows { log: lent.log, stored, tail: &[] };
     if let Some(page) = bad_page(lent.charts, &rows) {
         return Err(refused_at(4, page));

@@ -1,4 +1,4 @@
-//! The chart store of document 01 with requests L1 to L4 and L7 of document 02 (L5 and L6 add no rule),
+//! The chart store of document 01 with requests L1 to L4, L7 and L8 of document 02 (L5 and L6 add no rule),
 //! written twice in Rust, and the comparison of the proved store with both.
 //!
 //! `paper` is document 01 rendered as literally as possible; `fast` is an efficient store; `proved` is the

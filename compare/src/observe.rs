@@ -4,6 +4,7 @@ pub mod begins;
 pub mod conditions;
 pub mod openings;
 pub mod pages;
+mod reasons;
 mod whole_visits;
 mod wide_visits;
 mod writes;

@@ -148,15 +148,26 @@ impl Row {
     }
 }
 
-/// "Its bytes are as in the table above", for the row with this number.
-fn bytes_as_in_table(bytes: &[u8], number: usize) -> bool {
-    let row = Row::read(bytes);
-    (BEGIN..=HAND_OVER_ALL).contains(&row.kind)
-        && bytes.iter().zip(NAMED[row.kind as usize]).all(|(byte, name)| *byte == 0 || *name != b'.')
-        && row.visit >= 1
-        && (!row.is_hand_over() || row.receiver >= 1)
-        && usize::from(row.cell) < CELLS
-        && usize::from(row.number) == number
+/// Whether byte `at` may be other than zero in a row of this kind.
+pub fn is_named(kind: u8, at: usize) -> bool {
+    NAMED[usize::from(kind)][at] != b'.'
+}
+
+/// What 02, L8 counts as wrong bytes of a row: "unknown kind, a byte that must be zero, a wrong own number".
+pub fn is_known_kind(bytes: &[u8]) -> bool {
+    (BEGIN..=HAND_OVER_ALL).contains(&bytes[0])
+}
+
+pub fn sets_unnamed_byte(bytes: &[u8]) -> bool {
+    bytes.iter().enumerate().any(|(at, byte)| *byte != 0 && !is_named(bytes[0], at))
+}
+
+pub fn has_number(bytes: &[u8], number: usize) -> bool {
+    usize::from(Row::read(bytes).number) == number
+}
+
+fn has_wrong_bytes(bytes: &[u8], number: usize) -> bool {
+    !is_known_kind(bytes) || sets_unnamed_byte(bytes) || !has_number(bytes, number)
 }
 
 /// "4,096 rows of 16, numbered from 1. The log ends before the first row whose kind is 0."
@@ -379,14 +390,17 @@ impl Ledger {
     }
 }
 
-/// "A row is allowed after the rows before it when its bytes are as in the table above and: .."
-// The sums stand as in 01.
-#[allow(clippy::int_plus_one)]
-pub fn is_allowed(before: &Ledger, bytes: &[u8]) -> bool {
-    if before.rows.len() == LOG_ROWS || !bytes_as_in_table(bytes, before.rows.len() + 1) {
+/// What a row with right bytes needs of visits, cells, holders and undo rows: 02, L8, "a visit, cell, holder
+/// or undo rule". Of the table of bytes that are the ranges: "visit, 1 to 255", with the limit of 02, L7,
+/// "receiver", "cell, 0 to 223 (kinds 2, 3, 4)".
+fn keeps_rules(before: &Ledger, row: &Row) -> bool {
+    let names_cell = matches!(row.kind, CHANGE | HAND_OVER | UNDO);
+    if row.visit == 0
+        || row.is_hand_over() && row.receiver == 0
+        || names_cell && usize::from(row.cell) >= CELLS
+    {
         return false;
     }
-    let row = Row::read(bytes);
     // "two different active visits, neither with an undo row"
     let two_visits = || {
         row.visit != row.receiver
@@ -396,31 +410,16 @@ pub fn is_allowed(before: &Ledger, bytes: &[u8]) -> bool {
             && !before.bears_undo(row.receiver)
     };
     match row.kind {
-        // "begin: visit = begin rows so far + 1; fewer than 16 are active; free is at least reserve
-        // + 2"
-        BEGIN => {
-            usize::from(row.visit) == before.begin_rows() + 1
-                && before.active.len() < 16
-                && before.free() >= before.reserve() + 2
-        }
-        // "change: the visit is active and no undo row bears it; if it starts a scope, fewer than 64
-        // are in use; free is at least reserve + 2"
-        CHANGE => {
-            before.is_active(row.visit)
-                && !before.bears_undo(row.visit)
-                && (!before.starts_scope(row.visit, row.cell) || before.scopes_in_use() < 64)
-                && before.free() >= before.reserve() + 2
-        }
-        // "hand-over: two different active visits, neither with an undo row; the giver holds a
-        // change of the cell; free is at least reserve + 1"
-        HAND_OVER => {
-            two_visits() && before.holds(row.visit, row.cell) && before.free() >= before.reserve() + 1
-        }
+        // "begin: visit = begin rows so far + 1"
+        BEGIN => usize::from(row.visit) == before.begin_rows() + 1,
+        // "change: the visit is active and no undo row bears it"
+        CHANGE => before.is_active(row.visit) && !before.bears_undo(row.visit),
+        // "hand-over: two different active visits, neither with an undo row; the giver holds a change of
+        // the cell"
+        HAND_OVER => two_visits() && before.holds(row.visit, row.cell),
         // 02, L2: "It is accepted exactly where the two visits would be for a single cell, the giver
-        // holds something and one row is free beyond the reserve."
-        HAND_OVER_ALL => {
-            two_visits() && before.holds_something(row.visit) && before.free() >= before.reserve() + 1
-        }
+        // holds something .."
+        HAND_OVER_ALL => two_visits() && before.holds_something(row.visit),
         // "undo: the named row is the highest open change of that holder; cell and change equal that
         // row's"
         UNDO => match before.highest_open(row.visit) {
@@ -432,24 +431,68 @@ pub fn is_allowed(before: &Ledger, bytes: &[u8]) -> bool {
         // "commit: the visit is active and has no undo row"
         COMMIT => before.is_active(row.visit) && !before.bears_undo(row.visit),
         // "abort: the visit is active and holds no open change"
-        _ => before.is_active(row.visit) && before.highest_open(row.visit).is_none(),
+        ABORT => before.is_active(row.visit) && before.highest_open(row.visit).is_none(),
+        _ => true,
     }
 }
 
-/// "3: a row not allowed, or a byte after the end not zero; gives the first such row". The rows of a
-/// log that has neither, or the number of that row.
-pub fn check_log(log: &[u8]) -> Result<Ledger, usize> {
+/// What a row needs besides: 02, L8, "sixteen visits, the scopes or the free rows".
+// The sums stand as in 01.
+#[allow(clippy::int_plus_one)]
+fn keeps_limits(before: &Ledger, row: &Row) -> bool {
+    match row.kind {
+        // "begin: .. fewer than 16 are active; free is at least reserve + 2"
+        BEGIN => before.active.len() < 16 && before.free() >= before.reserve() + 2,
+        // "change: .. if it starts a scope, fewer than 64 are in use; free is at least reserve + 2"
+        CHANGE => {
+            (!before.starts_scope(row.visit, row.cell) || before.scopes_in_use() < 64)
+                && before.free() >= before.reserve() + 2
+        }
+        // "hand-over: .. free is at least reserve + 1"; 02, L2: ".. and one row is free beyond the reserve"
+        HAND_OVER | HAND_OVER_ALL => before.free() >= before.reserve() + 1,
+        _ => true,
+    }
+}
+
+/// The numbers of the reasons for which a row, of kind 0 or not, is not allowed after the rows before it,
+/// each judged by itself. 02, L8: "Checks: within a row first 3, then 16 .., then 17 ..". "A row is allowed
+/// after the rows before it" where there is none.
+pub fn reasons(before: &Ledger, bytes: &[u8]) -> Vec<u8> {
+    let row = Row::read(bytes);
+    let checks = [
+        (3, has_wrong_bytes(bytes, before.rows.len() + 1)),
+        (16, !keeps_rules(before, &row)),
+        (17, !keeps_limits(before, &row)),
+    ];
+    checks.iter().filter(|(_, refuses)| *refuses).map(|(number, _)| *number).collect()
+}
+
+pub fn is_allowed(before: &Ledger, bytes: &[u8]) -> bool {
+    before.rows.len() < LOG_ROWS && reasons(before, bytes).is_empty()
+}
+
+/// The first row of a log that is not allowed, or has a byte after the end that is not zero.
+pub struct BadRow {
+    pub row: usize,
+    /// The reasons, in the order of their checks.
+    pub reasons: Vec<u8>,
+}
+
+/// "3: a row not allowed, or a byte after the end not zero; gives the first such row", with the numbers of
+/// 02, L8: 3 for "bytes after the end". The rows of a log that has neither, or that row.
+pub fn check_log(log: &[u8]) -> Result<Ledger, BadRow> {
     let mut ledger = Ledger::default();
     for bytes in log.chunks_exact(ROW_BYTES).take_while(|bytes| bytes[0] != 0) {
-        if !is_allowed(&ledger, bytes) {
-            return Err(ledger.rows.len() + 1);
+        let reasons = reasons(&ledger, bytes);
+        if !reasons.is_empty() {
+            return Err(BadRow { row: ledger.rows.len() + 1, reasons });
         }
         ledger.add(Row::read(bytes));
     }
     let end = ledger.rows.len();
     let mut after = log.chunks_exact(ROW_BYTES).skip(end);
     match after.position(|bytes| bytes != [0; ROW_BYTES]) {
-        Some(blank_rows) => Err(end + blank_rows + 1),
+        Some(blank_rows) => Err(BadRow { row: end + blank_rows + 1, reasons: vec![3] }),
         None => Ok(ledger),
     }
 }
@@ -698,7 +741,9 @@ impl Paper {
     /// "It checks log, then pages, and loads the copy. Forward: each change or undo row whose number
     /// exceeds its page's mark is applied."
     pub fn forward(&self) -> Result<(Ledger, Vec<u8>), Refusal> {
-        let ledger = check_log(&self.log).map_err(|row| Refusal { number: 3, value: row as i64 })?;
+        // "Within a row first 3, then 16 .., then 17 .."
+        let ledger = check_log(&self.log)
+            .map_err(|bad| Refusal { number: bad.reasons[0], value: bad.row as i64 })?;
         check_pages(&self.charts, &ledger.rows)
             .map_err(|page| Refusal { number: 4, value: page as i64 })?;
         let mut copy = self.charts.clone();
@@ -712,7 +757,7 @@ impl Paper {
 
     /// "Open may come in any state; what was in RAM is lost."
     /// "After 3 or 4 log and charts are unchanged, while copy, tail and scopes end as after a power
-    /// failure and the store is closed."
+    /// failure and the store is closed." 02, L8: "16 and 17 leave everything as 3 does."
     pub fn open(&mut self, fuse: Option<u32>) -> Outcome {
         self.check_lengths()?;
         self.lose_ram();

@@ -4,7 +4,7 @@ use compare::adapters::FastStore;
 use compare::arena::{cost, Arena, Maker};
 use compare::bench::{Bench, Failure};
 use compare::cases::sessions::{habits, next_call, Habits};
-use compare::cases::{garbage, pages_alone, sessions};
+use compare::cases::{garbage, pages_alone, rejected_logs, sessions};
 use compare::cover::Cover;
 use compare::paper::{get_cell, Ledger, Paper, Row};
 use compare::paper::{ABORT, BEGIN, CHANGE, COMMIT, HAND_OVER, HAND_OVER_ALL, UNDO};
@@ -49,6 +49,10 @@ enum Fault {
     LowByte,
     /// It answers 7 where 65,535 visits have begun.
     UsedUp,
+    /// It takes a limit that a row of the log exceeds for a rule that it breaks.
+    Limit,
+    /// It takes a rule that a row of the log breaks for wrong bytes.
+    Rule,
 }
 
 /// A store with a fault.
@@ -75,7 +79,13 @@ impl Store for Wrong {
     }
     fn open(&mut self, fuse: Option<u32>) -> Answer {
         let more = u32::from(self.fault == Fault::Fuse);
-        self.store.open(fuse.map(|left| left + more))
+        let mut answer = self.store.open(fuse.map(|left| left + more));
+        match (self.fault, answer.number) {
+            (Fault::Limit, 17) => answer.number = 16,
+            (Fault::Rule, 16) => answer.number = 3,
+            _ => {}
+        }
+        answer
     }
     fn call(&mut self, call: Call) -> Answer {
         let state = self.state();
@@ -268,13 +278,19 @@ fn openings_that_write_another_number_of_rows_are_found() {
 }
 
 #[test]
+fn other_reasons_for_a_rejected_log_are_found() {
+    is_found(|| Wrong::boxed(Fault::Limit), rejected_logs::play, "paper answers");
+    is_found(|| Wrong::boxed(Fault::Rule), rejected_logs::play, "paper answers");
+}
+
+#[test]
 fn calls_after_writes_of_the_host_are_left_out() {
     let mut cover = Cover::default();
     let makers: [Maker; 1] = [|| Box::new(FastStore::new())];
     let mut arena = Arena::new(&makers, &mut cover);
     let steps = [open(None), begin(), Step::WriteLogByte(0, 7), change(1, 0, 1), read(0)];
     arena.steps(&steps).unwrap();
-    arena.expect(open(None), 3, 1).unwrap();
+    arena.expect(open(None), 16, 1).unwrap();
     arena.expect(begin(), 5, 0).unwrap();
 }
 

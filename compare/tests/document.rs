@@ -1,6 +1,6 @@
 //! The answers that documents 01 and 02 give: 01's twelve cases, those of its text and its run file's example,
-//! the counts of 02's request L1, the whole visits of L2, the begins of L4, the costliest openings of L6, and
-//! the visits of two bytes of L7.
+//! the counts of 02's request L1, the whole visits of L2, the begins of L4, the costliest openings of L6, the
+//! visits of two bytes of L7, and the reasons of L8.
 
 use compare::adapters::FastStore;
 use compare::arena::{Arena, Maker};
@@ -8,6 +8,7 @@ use compare::cases::begins::BEGINS;
 use compare::cases::costliest::COSTLIEST;
 use compare::cases::counts::COUNTS;
 use compare::cases::document::Case;
+use compare::cases::reasons::REASONS;
 use compare::cases::text::TEXT;
 use compare::cases::twelve::TWELVE;
 use compare::cases::whole_visit_rows::WHOLE_VISIT_ROWS;
@@ -62,6 +63,11 @@ fn begins_that_are_stored() {
 #[test]
 fn costliest_openings() {
     play(&COSTLIEST);
+}
+
+#[test]
+fn reasons_for_a_rejected_log() {
+    play(&REASONS);
 }
 
 fn stores() -> [Box<dyn Store>; 4] {

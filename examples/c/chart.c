@@ -60,6 +60,17 @@ static void expect_unchanged(const char *what, chart_answer a, int number, int32
     }
 }
 
+/* The opening rejects the log: the store is closed, with no byte of RAM set. Service staff read the hint. */
+static void expect_rejected(const char *what, chart_answer a, int number, int32_t value) {
+    static const chart_ram zero = {{0}, {0}, {0}, {0}, {0}};
+    expect(what, a, number, value);
+    printf("  %s\n", chart_service_hint(number));
+    if (memcmp(&ram, &zero, sizeof ram) != 0) {
+        puts("   <- a rejected log left something in RAM");
+        failures++;
+    }
+}
+
 /* A page alone, by the stored log. */
 static chart_answer redo(uint8_t *page, uint64_t length, uint8_t number) {
     return chart_redo_page(stored_log, sizeof stored_log, page, length, number);
@@ -172,8 +183,19 @@ int main(void) {
     }
     expect_stored(510, 0); /* the abort row of visit 4, each begin's row, rows 17 to 21 by the commit of visit 6, and two rows for each of the later visits */
 
-    stored_log[CHART_ROW_LENGTH * 2 + 1] ^= 1;
-    expect("open a log whose row 3 was altered", chart_open(s, CHART_NO_FUSE), CHART_BAD_ROW, 3);
+    /* Rejected logs, each for another reason. Row 3 is a change by visit 1. */
+    stored_log[CHART_ROW_LENGTH * 2 + 1] = 0;
+    expect_rejected("open: row 3 is by visit 0", chart_open(s, CHART_NO_FUSE), CHART_BREAKS_RULE, 3);
+    stored_log[CHART_ROW_LENGTH * 2 + 2] = 1;
+    expect_rejected("open: it has a receiver as well", chart_open(s, CHART_NO_FUSE), CHART_WRONG_BYTES, 3);
+    memset(stored_log, 0, sizeof stored_log);
+    for (uint8_t visit = 1; visit <= CHART_ACTIVE_VISITS + 1; visit++) {
+        uint8_t *row = stored_log + CHART_ROW_LENGTH * (visit - 1);
+        row[0] = 1; /* begin */
+        row[1] = visit;
+        row[4] = visit; /* the row's own number */
+    }
+    expect_rejected("open: row 17 begins a 17th visit", chart_open(s, CHART_NO_FUSE), CHART_OVER_LIMIT, 17);
 
     puts(failures == 0 ? "all as expected" : "NOT all as expected");
     return failures != 0;

@@ -47,7 +47,7 @@ impl Leaves {
     /// "A refused call changes nothing."
     pub const REFUSED: Leaves = Leaves { log: Part::Same, charts: Part::Same, ram: Part::Same };
     /// "After 3 or 4 log and charts are unchanged, while copy, tail and scopes end as after a power
-    /// failure and the store is closed."
+    /// failure and the store is closed." 02, L8: "16 and 17 leave everything as 3 does."
     pub const REJECTED: Leaves = Leaves { log: Part::Same, charts: Part::Same, ram: Part::Zeros };
     /// Rows may land before power fails. A page never does: it is the last write of its call.
     pub const CUT: Leaves = Leaves { log: Part::Any, charts: Part::Same, ram: Part::Zeros };

@@ -36,7 +36,7 @@ pub fn play(bench: &mut Bench, seed: u64) -> Result<(), Failure> {
             let call = next_call(rng, &habits, arena.ledger());
             arena.step(Step::Call(call))?;
             // A rejected store is closed to every call, and is repaired.
-            if answer.number == 3 || answer.number == 4 {
+            if matches!(answer.number, 3 | 16 | 17 | 4) {
                 for _ in 0..2 {
                     if rng.chance(1, 2) {
                         arena.step(lend(rng))?;

@@ -1,10 +1,11 @@
 //! Cases with the answers that documents 01 and 02 give: the twelve of 01's list, those of its text, the
-//! counts of 02's request L1, the whole visits of L2, the begins of L4, the costliest openings of L6, and the
-//! visits of two bytes of L7.
+//! counts of 02's request L1, the whole visits of L2, the begins of L4, the costliest openings of L6, the
+//! visits of two bytes of L7, and the reasons of L8.
 
 use super::begins::BEGINS;
 use super::costliest::COSTLIEST;
 use super::counts::COUNTS;
+use super::reasons::REASONS;
 use super::text::TEXT;
 use super::twelve::TWELVE;
 use super::whole_visit_rows::WHOLE_VISIT_ROWS;
@@ -21,8 +22,17 @@ pub struct Case {
     pub play: fn(&mut Arena) -> Outcome<()>,
 }
 
-const LISTS: [&[Case]; 8] =
-    [&TWELVE, &TEXT, &COUNTS, &WHOLE_VISITS, &WHOLE_VISIT_ROWS, &BEGINS, &COSTLIEST, &WIDE_VISITS];
+const LISTS: [&[Case]; 9] = [
+    &TWELVE,
+    &TEXT,
+    &COUNTS,
+    &WHOLE_VISITS,
+    &WHOLE_VISIT_ROWS,
+    &BEGINS,
+    &COSTLIEST,
+    &WIDE_VISITS,
+    &REASONS,
+];
 
 pub const COUNT: u64 = {
     let (mut count, mut at) = (0, 0);

@@ -418,14 +418,19 @@ pub const TEXT: [Case; 32] = [
         },
     },
     Case {
-        name: "log before pages: 3",
+        name: "log before pages: 3, 16 and 17 before 4",
         play: |a| {
             ready(a, 0)?;
             a.step(Step::WriteCharts(2, vec![1]))?;
             a.step(Step::WriteLogByte(0, 9))?;
             a.expect(open(None), 3, 1)?;
             a.expect(read(0), 5, 0)?;
-            a.step(Step::WriteLogByte(0, 0))?;
+            is_refused(a, 16, &[row(BEGIN, 2, 1)])?;
+            a.expect(read(0), 5, 0)?;
+            let visits: Vec<_> = (1..=17).map(|visit| row(BEGIN, visit, visit)).collect();
+            is_refused(a, 17, &visits)?;
+            a.expect(read(0), 5, 0)?;
+            a.step(Step::WriteLog(Vec::new()))?;
             a.expect(open(None), 4, 0)
         },
     },
@@ -458,8 +463,7 @@ pub const TEXT: [Case; 32] = [
             ] {
                 let mut longer = log.clone();
                 longer.push(next);
-                a.step(Step::WriteLog(longer))?;
-                a.expect(open(None), 3, 10)?;
+                is_refused(a, 16, &longer)?;
             }
             Ok(())
         },
@@ -476,12 +480,12 @@ pub const TEXT: [Case; 32] = [
             log.push(hand_over_row(1, 2, 0, 2_048));
             // One more than the reserve is free.
             opens(a, &log, 2_047)?;
-            is_refused(a, &with(&log, row(BEGIN, 3, 2_049)))?;
-            is_refused(a, &with(&log, change_row(1, 0, 1, 2_049)))?;
+            is_refused(a, 17, &with(&log, row(BEGIN, 3, 2_049)))?;
+            is_refused(a, 17, &with(&log, change_row(1, 0, 1, 2_049)))?;
             log.push(hand_over_row(2, 1, 0, 2_049));
             // As many as the reserve are free.
             opens(a, &log, 2_047)?;
-            is_refused(a, &with(&log, hand_over_row(1, 2, 0, 2_050)))?;
+            is_refused(a, 17, &with(&log, hand_over_row(1, 2, 0, 2_050)))?;
             opens(a, &with(&log, row(COMMIT, 1, 2_050)), 1)?;
             opens(a, &with(&log, undo_row(1, 0, 1, 2_047, 2_050)), 2_046)
         },
@@ -495,22 +499,22 @@ pub const TEXT: [Case; 32] = [
             // 1,594 rows are free, 1,502 in reserve: 46 changes more.
             log.extend((2_503..=2_548).map(|number| change_row(2, 7, 1, number)));
             opens(a, &log, 1_548)?;
-            is_refused(a, &with(&log, change_row(2, 7, 1, 2_549)))
+            is_refused(a, 17, &with(&log, change_row(2, 7, 1, 2_549)))
         },
     },
     Case {
         name: "rows: sixteen visits and sixty-four scopes at most",
         play: |a| {
             let mut log: Vec<_> = (1..=16).map(|visit| row(BEGIN, visit, visit)).collect();
-            is_refused(a, &with(&log, row(BEGIN, 17, 17)))?;
+            is_refused(a, 17, &with(&log, row(BEGIN, 17, 17)))?;
             log.extend((17..=80).map(|number| change_row(1, number as u8, 1, number)));
-            is_refused(a, &with(&log, change_row(1, 100, 1, 81)))?;
-            is_refused(a, &with(&log, change_row(2, 17, 1, 81)))?;
+            is_refused(a, 17, &with(&log, change_row(1, 100, 1, 81)))?;
+            is_refused(a, 17, &with(&log, change_row(2, 17, 1, 81)))?;
             opens(a, &with(&log, change_row(1, 80, 1, 81)), 81)?;
             // A scope that is wholly undone is in use until its holder ends.
             log.push(hand_over_row(1, 16, 80, 81));
             log.push(undo_row(16, 80, 1, 80, 82));
-            is_refused(a, &with(&log, change_row(2, 0, 1, 83)))?;
+            is_refused(a, 17, &with(&log, change_row(2, 0, 1, 83)))?;
             log.push(row(ABORT, 16, 83));
             opens(a, &with(&log, change_row(2, 0, 1, 84)), 79)
         },
@@ -558,8 +562,8 @@ pub fn opens(arena: &mut Arena, log: &[[u8; 16]], rows: i64) -> Outcome<()> {
     arena.expect(open(None), 0, rows)
 }
 
-/// The last row of this log is the first that is not allowed.
-pub fn is_refused(arena: &mut Arena, log: &[[u8; 16]]) -> Outcome<()> {
+/// The last row of this log is the first that is not allowed, for the reason with this number.
+pub fn is_refused(arena: &mut Arena, number: u8, log: &[[u8; 16]]) -> Outcome<()> {
     arena.step(Step::WriteLog(log.to_vec()))?;
-    arena.expect(open(None), 3, log.len() as i64)
+    arena.expect(open(None), number, log.len() as i64)
 }

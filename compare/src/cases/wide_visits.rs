@@ -90,18 +90,26 @@ pub const WIDE_VISITS: [Case; 5] = [
         },
     },
     Case {
-        name: "a high byte that a kind has not, or that makes it the row of another visit: 3",
+        name: "a high byte that a kind has not: 3, or that makes it the row of another visit: 16",
         play: |a| {
             let rows =
                 [row(BEGIN, 1, 1), row(BEGIN, 2, 2), change_row(1, 0, 5, 3), hand_over_row(1, 2, 0, 4)];
-            for (number, byte) in
-                [(1, 10), (1, 11), (2, 10), (2, 11), (3, 10), (3, 11), (4, 10), (4, 11), (4, 12)]
-            {
+            for (row, byte, number) in [
+                (1, 10, 16),
+                (1, 11, 3),
+                (2, 10, 16),
+                (2, 11, 3),
+                (3, 10, 16),
+                (3, 11, 3),
+                (4, 10, 16),
+                (4, 11, 16),
+                (4, 12, 3),
+            ] {
                 let mut altered = rows.to_vec();
-                altered[number - 1][byte] = 1;
+                altered[row - 1][byte] = 1;
                 a.expect(Step::Format(vec![0; CELLS]), 0, 0)?;
                 a.step(Step::WriteLog(altered))?;
-                a.expect(open(None), 3, number as i64)?;
+                a.expect(open(None), number, row as i64)?;
             }
             a.expect(Step::Format(vec![0; CELLS]), 0, 0)?;
             a.step(Step::WriteLog(rows.to_vec()))?;

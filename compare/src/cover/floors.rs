@@ -34,12 +34,13 @@ pub const TABLES: [Table; 5] = [PLAYED, ANSWERS, PAIRS, WRITES, SHAPES];
 pub const PLAYED: Table = Table {
     title: "cases and calls, by part",
     lines: &[
-        ("document", &[("cases", 30), ("calls", 9_900)]),
+        ("document", &[("cases", 33), ("calls", 9_900)]),
         ("short", &[("cases", 9_500), ("calls", 95_000)]),
         ("sessions", &[("cases", 550), ("calls", 82_000)]),
         ("rows", &[("cases", 3_300), ("calls", 7_500)]),
         ("row bytes", &[("cases", 37), ("calls", 9_500)]),
         ("damage", &[("cases", 290), ("calls", 29_000)]),
+        ("rejected logs", &[("cases", 130), ("calls", 8_100)]),
         ("garbage", &[("cases", 220), ("calls", 53_000)]),
         ("run files", &[("cases", 360), ("calls", 19_000)]),
         ("cuts", &[("cases", 950), ("calls", 120_000)]),

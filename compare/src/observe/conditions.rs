@@ -1,8 +1,8 @@
-//! The conditions of 01's table "Refusals by place", and of the line that 02's request L2 adds to it, each
-//! judged by itself, on the paper's store before the call.
+//! The conditions of 01's table "Refusals by place", and of the lines that 02's requests L2 and L8 add to it,
+//! each judged by itself, on the paper's store before the call.
 
 use super::Moment;
-use crate::paper::{check_log, check_pages, rows_of, Ledger};
+use crate::paper::{check_log, check_pages, rows_of};
 use crate::store::{Call, Lengths, CELLS, RIGHT};
 
 /// The labels of the conditions that hold, in checking order. A label begins with the number.
@@ -20,11 +20,20 @@ pub fn of_format(cells: &[i32], lent: Lengths) -> Conditions {
 /// Of an opening that has not changed log and charts. A log that is not allowed is read as the rows that
 /// it has; then nothing is said of power.
 pub fn of_opening(lent: Lengths, log: &[u8], charts: &[u8], fuse: Option<u32>) -> Conditions {
-    let checked = check_log(log);
-    let needed = checked.as_ref().map_or(0, Ledger::reserve);
+    let (reasons, needed) = match check_log(log) {
+        Ok(ledger) => (Vec::new(), ledger.reserve()),
+        Err(bad) => (bad.reasons, 0),
+    };
     let is_cut = fuse.is_some_and(|left| (left as usize) < needed);
     let bad_page = check_pages(charts, &rows_of(log)).is_err();
-    holding(&[(lent != RIGHT, "1"), (checked.is_err(), "3"), (bad_page, "4"), (is_cut, "5")])
+    holding(&[
+        (lent != RIGHT, "1"),
+        (reasons.contains(&3), "3"),
+        (reasons.contains(&16), "16"),
+        (reasons.contains(&17), "17"),
+        (bad_page, "4"),
+        (is_cut, "5"),
+    ])
 }
 
 /// Of a call. `log` is the stored log, by which the active visits of a closed store are counted.

@@ -1,10 +1,11 @@
 //! What an opening found and left.
 
-use super::{is_on_page, label, undo_rows, whole_visits, writes, Moment};
+use super::{is_on_page, label, reasons, undo_rows, whole_visits, writes, Moment};
 use crate::arena::cost::{all_begins_and_changes, bound};
 use crate::cover::Cover;
 use crate::paper::{self, get_mark, rows_of, Ledger, Row, UNDO};
 use crate::store::{Answer, Lengths};
+use std::cmp::Ordering;
 
 pub struct Opening<'a> {
     pub lent: Lengths,
@@ -25,7 +26,7 @@ pub fn open(cover: &mut Cover, opening: &Opening) {
     cover.answer("open", label(answer.number, opening.lent));
     match answer.number {
         0 | 5 => {}
-        3 => return refused_log(cover, log, answer.value as usize),
+        3 | 16 | 17 => return refused_log(cover, log, answer.value as usize),
         _ => return,
     }
     cover.shape_if(
@@ -125,5 +126,10 @@ fn refused_log(cover: &mut Cover, log: &[u8], row: usize) {
             whole_visits::refused_row(cover, &before, &log[(row - 1) * 16..row * 16])
         }
         _ => {}
+    }
+    match rows.len().cmp(&row) {
+        Ordering::Equal => reasons::refused_row(cover, &before, &log[(row - 1) * 16..row * 16]),
+        // The row is of kind 0, or stands behind one that is.
+        _ => reasons::after_end(cover, rows.len() + 1 == row),
     }
 }

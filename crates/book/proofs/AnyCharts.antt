@@ -5,11 +5,11 @@ use native.Mathlib.Omega.{arith}
 use mathlib.Core.Path.{_≡_, refl, ap, ap₂, sym, _∙_}
 use mathlib.Core.Bool.{Bool, true, false, cond, _||_}
 use mathlib.Core.List.{List, [], _∷_, _++_}
-use lib.ListN.{length, getD, take, drop, length-take, length-drop, List·getD-eq-default}
-use lib.Seq.{sets, getD-take, getD-drop, length-take-le}
+use lib.ListN.{length, getD, take, drop, length-drop}
+use lib.Seq.{sets, length-take-le}
 use lib.IntN.{ℤ, pos, negℤ, _+ℤ_, _-ℤ_, natAbs, -ℤ-+ℤ-cancel}
 use lib.Dec.{eqb, ltb}
-use borrow.Author.Tests.{eqb-true, ne-eqb, le-leb, lt-ltb, ltb-true, ltb-false}
+use borrow.Author.Tests.{eqb-true, ne-eqb, le-leb, lt-ltb, ltb-true}
 use Rattle.book.specs.Lists.{tabulate, join, firstFailing}
 use Rattle.book.specs.Rows.{Row}
 use Rattle.book.specs.Ledger.{empty}
@@ -19,7 +19,7 @@ use Rattle.book.specs.Numbers.{AreBytes, le, number, bitsOf, signed, wit
 use Rattle.book.specs.Pages.{pageBytes, chartBytes, pageAt, pageOf, cellOf, pageAfter, rowAt, isPage}
 use Rattle.book.specs.Opening.{badPage}
 use Rattle.book.proofs.Lists.{clash, and-l, and-r}
-use Rattle.book.proofs.Numbers.{two-back, four-back, four-below, bits-signed}
+use Rattle.book.proofs.Numbers.{part-bytes, two-back, four-back, four-below, bits-signed}
 use Rattle.book.proofs.Blocks.{listed, blocks, tabulate-same, first-all}
 use Rattle.book.proofs.Marks.{sumOf, abs-add, abs-neg, abs-sum, take-allowed, take-few}
 use Rattle.book.proofs.Pages.{page-same, within-abs, page-of, asOf, chartsAsOf, Bounded}
@@ -98,15 +98,6 @@ startOf charts rs c p j = pageOf (pageAt charts p) .cell j -ℤ sumOf c (take (m
 
 unfoldable pub baseOf : List ℕ → List Row → ℕ → ℤ
 baseOf charts rs c = cond (ltb c 224) (startOf charts rs c (pageOfCell c) (c % 7)) (pos 0)
-
-pub part-bytes : (bs : List ℕ) → AreBytes bs → (m n : ℕ) → AreBytes (take n (drop m bs))
-part-bytes bs byte m n i = go (ltb i n) refl
-  where
-    go : (t : Bool) → ltb i n ≡ t → getD (take n (drop m bs)) i 0 < 256
-    go true e = rw (getD-take n (drop m bs) i 0 (ltb-true i n e), getD-drop m bs i 0) (byte (m + i))
-    go false e =
-        let k = length-take n (drop m bs) in let h = ltb-false i n e in
-        rw (List·getD-eq-default (take n (drop m bs)) 0 {n = i} (omega arith)) (omega arith)
 
 module _ (charts : List ℕ) (long : length charts ≡ 1024) (byte : AreBytes charts) (rs : List Row) (al : allowedLog rs ≡ true) (few : length rs ≤ 4096)
     (good : badPage rs charts ≡ 32) where

@@ -46,6 +46,7 @@ pub mod Blocks
 pub mod RowBytes
 pub mod LogBytes
 pub mod OldLogs
+pub mod Reasons
 pub mod Reading
 pub mod Marks
 pub mod PageAfterRows
@@ -67,6 +68,7 @@ pub mod RowRules
 pub mod AtTheLimit
 pub mod VisitsUsedUp
 pub mod TwoViolations
+pub mod RejectedRows
 pub mod HandOvers
 pub mod TwoOrders
 pub mod StoredWrites

@@ -14,7 +14,7 @@ use Rattle.book.specs.Ledger.{Ledger, empty, after}
 use Rattle.book.specs.Rules.{lawful, withinLimits, allowed, allAllowed, allowedLog}
 use Rattle.book.specs.RowBytes.{rowBytes, rowOf, isRowBytes}
 use Rattle.book.specs.LogBytes.{rowsBytes, logBytes, judge, Log, good, bad, consLog, readEnd, readRows, readLog}
-use Rattle.book.proofs.Lists.{and-i, and-l, and-r, clash}
+use Rattle.book.proofs.Lists.{and-i, and-l, and-r}
 use Rattle.book.proofs.RowBytes.{eqBytes-true, row-long, row-kind, kind-known, row-back, row-bytes, row-exact}
 
 -- ── Zero bytes ────────────────────────────────────────────────────────────────────────────────────────────────────────
@@ -62,8 +62,8 @@ log-long rs h =
 -- ── A row is judged ───────────────────────────────────────────────────────────────────────────────────────────────────
 
 -- the three tests in their order: bytes, rules, limits
-abbrev tested : Bool → Bool → Bool → ℕ
-tested s t u = cond (not s) 3 (cond (not t) 3 (cond (not u) 3 0))
+abbrev pub tested : Bool → Bool → Bool → ℕ
+tested s t u = cond (not s) 3 (cond (not t) 16 (cond (not u) 17 0))
 
 pub allowed-fits : (l : Ledger) (r : Row) → allowed l r ≡ true → fits r ≡ true
 unfolding allowed
@@ -86,17 +86,6 @@ judge-exact l n bs = go (isRowBytes n bs) (fits (rowOf bs) && lawful l (rowOf bs
     go true true false e = absurd (omega arith)
     go true false u e = absurd (omega arith)
     go false t u e = absurd (omega arith)
-
--- what does not pass is refused by 3
-pub judge-three : (l : Ledger) (n : ℕ) (bs : List ℕ) → eqb (judge l n bs) 0 ≡ false → judge l n bs ≡ 3
-unfolding judge
-judge-three l n bs = go (isRowBytes n bs) (fits (rowOf bs) && lawful l (rowOf bs)) (withinLimits l (rowOf bs))
-  where
-    go : (s t u : Bool) → eqb (tested s t u) 0 ≡ false → tested s t u ≡ 3
-    go true true true e = clash true refl e
-    go true true false e = refl
-    go true false u e = refl
-    go false t u e = refl
 
 -- ── An allowed log is read as its rows ────────────────────────────────────────────────────────────────────────────────
 

@@ -2,17 +2,29 @@
 use Prim.Native.Nat.{ℕ, suc, _+_, _-_, _*_, _/_, _%_, _^_, _<_}
 use native.Mathlib.Omega.{arith}
 use native.Mathlib.Nat.{mod-eq-of-lt}
-use mathlib.Core.Path.{_≡_, ap, ap₂}
+use mathlib.Core.Path.{_≡_, refl, ap, ap₂}
 use mathlib.Core.Bool.{Bool, true, false, cond}
-use mathlib.Core.List.{[], _∷_}
+use mathlib.Core.List.{List, [], _∷_}
+use lib.ListN.{getD, take, drop, length-take, List·getD-eq-default}
+use lib.Seq.{getD-take, getD-drop}
 use lib.IntN.{ℤ, pos, negsuc}
 use lib.Dec.{leb, ltb}
-use borrow.Author.Tests.{leb-true, lt-ltb, le-ltb}
+use borrow.Author.Tests.{leb-true, lt-ltb, le-ltb, ltb-true, ltb-false}
 use Rattle.book.specs.Rows.{isAmount}
-use Rattle.book.specs.Numbers.{le, bitsOf, signed}
+use Rattle.book.specs.Numbers.{AreBytes, le, bitsOf, signed}
 use Rattle.book.proofs.Lists.{and-l}
 
 -- ── Bytes ─────────────────────────────────────────────────────────────────────────────────────────────────────────────
+
+-- a part of bytes
+pub part-bytes : (bs : List ℕ) → AreBytes bs → (m n : ℕ) → AreBytes (take n (drop m bs))
+part-bytes bs byte m n i = go (ltb i n) refl
+  where
+    go : (t : Bool) → ltb i n ≡ t → getD (take n (drop m bs)) i 0 < 256
+    go true e = rw (getD-take n (drop m bs) i 0 (ltb-true i n e), getD-drop m bs i 0) (byte (m + i))
+    go false e =
+        let k = length-take n (drop m bs) in let h = ltb-false i n e in
+        rw (List·getD-eq-default (take n (drop m bs)) 0 {n = i} (omega arith)) (omega arith)
 
 pub two-bytes : (x : ℕ) → x < 65536 → x % 256 + 256 * (x / 256 % 256 + 256 * 0) ≡ x
 two-bytes x h = omega arith

@@ -104,7 +104,7 @@ unfolding computes
 whole-visit-with-a-cell = refl
 
 -- 02, L7: a begin row has no receiver, so its byte 11 must be zero; with byte 10 set, row 1 begins visit 257
-pub high-bytes-of-a-begin : map (λ i. read 1 (set (rowsBytes 1 (Row.begin 1 ∷ [])) i 1)) (10 ∷ 11 ∷ []) ≡ bad 3 1 ∷ bad 3 1 ∷ []
+pub high-bytes-of-a-begin : map (λ i. read 1 (set (rowsBytes 1 (Row.begin 1 ∷ [])) i 1)) (10 ∷ 11 ∷ []) ≡ bad 16 1 ∷ bad 3 1 ∷ []
 unfolding computes
 high-bytes-of-a-begin = refl
 
@@ -113,8 +113,8 @@ pub no-kind-8 : read 4 (set (rowsBytes 1 fourRows) (16 * 3) 8) ≡ bad 3 4
 unfolding computes
 no-kind-8 = refl
 
--- 01: 3 "gives the first such row": rows 2 and 3 are not allowed
-pub first-bad-row : read 3 (rowsBytes 1 (Row.begin 1 ∷ Row.begin 1 ∷ Row.begin 1 ∷ [])) ≡ bad 3 2
+-- 01: "gives the first such row": rows 2 and 3 are not allowed
+pub first-bad-row : read 3 (rowsBytes 1 (Row.begin 1 ∷ Row.begin 1 ∷ Row.begin 1 ∷ [])) ≡ bad 16 2
 unfolding computes
 first-bad-row = refl
 

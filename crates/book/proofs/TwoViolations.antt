@@ -1,4 +1,4 @@
--- Document 01, "Refusals by place, in checking order", with the line of document 02, L2: for each two neighbours of a line of the table, something that both rule
+-- Document 01, "Refusals by place, in checking order", with the lines of document 02, L2 and L8: for each two neighbours of a line of the table, something that both rule
 -- out, and the number of the first; 6 and 7 of a begin are in VisitsUsedUp. All hold by computing, those over a full log from what its rows come to.
 -- Commit, abort, flush and read have one number of their own. Two neighbours cannot be told apart: a giver and a receiver that are not active are both
 -- refused by 9, and a receiver that is not active and is the giver too (12) is a giver that is not active. So the receiver's 9 is compared with the number after 12.
@@ -8,6 +8,7 @@ use mathlib.Core.Bool.{true, false}
 use mathlib.Core.List.{List, [], _∷_, map, append-nil}
 use lib.ListN.{replicate, set}
 use lib.IntN.{pos}
+use Rattle.book.specs.Rows.{Row}
 use Rattle.book.specs.Calls.{Call}
 use Rattle.book.specs.Power.{left, closed}
 use Rattle.book.specs.Book.{answer, refused, opening, refusedBy}
@@ -105,7 +106,7 @@ pub closed-5-first : answers zeros (closed (visits 16)) (map (calls true) refuse
 unfolding computes
 closed-5-first = refl
 
--- ── Open: 1, 3, 4, 5 ──────────────────────────────────────────────────────────────────────────────────────────────────
+-- ── Open: 1, then 3, 16 or 17 (02, L8; their own order is in `RejectedRows`), 4, 5 ────────────────────────────────────
 
 -- the opening would write an abort row, which the fuse does not let land
 pub open-1-before-5 : opening (closed (visits 1)) false (left 0) ≡ refused 1 (closed (visits 1))
@@ -120,6 +121,16 @@ badCharts = set (chartBytes (pageAfter zeros [])) (32 * 5 + 2) 1
 pub open-3-before-4 : openBytes (left 0) (set (logBytes []) 0 8) badCharts .answer ≡ answer 3 (pos 1)
 unfolding computes
 open-3-before-4 = refl
+
+-- row 1 begins visit 2
+pub open-16-before-4 : openBytes (left 0) (logBytes (Row.begin 2 ∷ [])) badCharts .answer ≡ answer 16 (pos 1)
+unfolding computes
+open-16-before-4 = refl
+
+-- row 17 begins a visit while sixteen are active
+pub open-17-before-4 : openBytes (left 0) (logBytes (visits 17)) badCharts .answer ≡ answer 17 (pos 17)
+unfolding computes
+open-17-before-4 = refl
 
 -- the log is read as a begin row
 pub open-4-before-5 : checked (left 0) (logBytes (visits 1)) badCharts (good (visits 1)) .answer ≡ answer 4 (pos 5)

@@ -21,13 +21,14 @@ rowsBytes n (r ∷ rs) = rowBytes n r ++ rowsBytes (suc n) rs
 unfoldable pub logBytes : List Row → List ℕ
 logBytes rs = padTo logLength 0 (rowsBytes 1 rs)
 
--- the refusal number of row n with these bytes, after the rows that come to `l`; 0 where it is allowed. Bytes, then rules, then limits.
+-- 02, L8: the refusal number of row n with these bytes, after the rows that come to `l`; 0 where it is allowed. "Checks: within a row first 3", for its bytes,
+-- "then 16 for a visit, cell, holder or undo rule, then 17 for sixteen visits, the scopes or the free rows". A field out of its range breaks a rule.
 unfoldable pub judge : Ledger → ℕ → List ℕ → ℕ
 judge l n bs =
     let r = rowOf bs in
-    (3, not (isRowBytes n bs)) else (3, not (fits r && lawful l r)) else (3, not (withinLimits l r)) else 0
+    (3, not (isRowBytes n bs)) else (16, not (fits r && lawful l r)) else (17, not (withinLimits l r)) else 0
 
--- 01: what a check of the log finds: its rows, or the first row that is not allowed or has a byte after the end that is not zero
+-- 01: what a check of the log finds: its rows, or the first row that is not allowed or has a byte after the end that is not zero, with the refusal number
 pub data Log : Type 0 where
   good : (rows : List Row) → Log
   bad : (number row : ℕ) → Log
@@ -37,7 +38,7 @@ abbrev pub consLog : Row → Log → Log
 consLog r (good rs) = good (r ∷ rs)
 consLog r (bad k n) = bad k n
 
--- past the end: k rows from number n on have to be zero
+-- past the end: k rows from number n on have to be zero; 02, L8: 3 for "bytes after the end"
 abbrev pub readEnd : ℕ → ℕ → List ℕ → Log
 readEnd zero n bs = good []
 readEnd (suc k) n bs =

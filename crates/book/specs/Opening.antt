@@ -26,7 +26,7 @@ pub record Opened : Type 0 where
 abbrev pub noCopy : List ℕ
 noCopy = replicate chartsLength 0
 
--- 01: after 3 or 4 log and charts are unchanged and the store is closed
+-- 01: after 3 or 4 log and charts are unchanged and the store is closed; 02, L8: "16 and 17 leave everything as 3 does"
 abbrev pub rejected : ℕ → ℕ → List ℕ → Opened
 rejected n place log = record { answer = answer n (pos place); book = closed []; log = log; copy = noCopy; writes = noWrites }
 

@@ -116,9 +116,9 @@ fn bad_row(reason: Reason, row: Lsn) -> Answer
     ensures { λ r. ⌜ (numberAndValue r ≡ answer (numberOfReason reason) (pos (row .0))) × (caseOf r ≡ refusal) ⌝ }
 {
     match reason {
-        Reason::Bytes => Answer::BadRow(row),
-        Reason::Rule => Answer::BadRow(row),
-        Reason::Limit => Answer::BadRow(row),
+        Reason::Bytes => Answer::WrongBytes(row),
+        Reason::Rule => Answer::BreaksRule(row),
+        Reason::Limit => Answer::OverLimit(row),
     }
 }
 

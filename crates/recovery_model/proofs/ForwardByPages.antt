@@ -18,7 +18,7 @@ use Rattle.book.specs.Opening.{badPage}
 use Rattle.book.proofs.Lists.{and-l, and-r}
 use Rattle.book.proofs.Blocks.{tabulate-same}
 use Rattle.book.proofs.LogBytes.{log-exact}
-use Rattle.book.proofs.AnyCharts.{part-bytes}
+use Rattle.book.proofs.Numbers.{part-bytes}
 use Rattle.recovery_model.specs.Scan.{Scanned, scanned}
 use Rattle.recovery_model.specs.Charts.{badPageBy, redoPage, redoCharts}
 use Rattle.recovery_model.specs.Openings.{noIndex, backwardFrom, opensBy}

@@ -19,7 +19,7 @@ use Rattle.book.specs.Pages.{pageBytes, chartBytes, pageAt, isPage, redone}
 use Rattle.book.specs.Opening.{badPage}
 use Rattle.book.proofs.Lists.{clash, or-l, or-r}
 use Rattle.book.proofs.Blocks.{blocks, blocks-long, tabulate-same, first-all, block-at, block-set}
-use Rattle.book.proofs.AnyCharts.{part-bytes}
+use Rattle.book.proofs.Numbers.{part-bytes}
 use Rattle.state.specs.Contracts.{withPage}
 use Rattle.recovery_model.specs.PageAlone.{rowsIn, redoneBytes, RedoneAlone, redoneAlone, PageAlone, withRedone, AllPages, AnyOrder, CopyAlone}
 use Rattle.recovery_model.proofs.RedoneBytes.{redone-long, redone-twice}

@@ -22,7 +22,8 @@ use Rattle.book.specs.Opening.{badPage}
 use Rattle.book.proofs.Marks.{sumOf}
 use Rattle.book.proofs.Blocks.{tabulate-same, first-all}
 use Rattle.book.proofs.Pages.{SamePage, page-same}
-use Rattle.book.proofs.AnyCharts.{page-read, part-bytes}
+use Rattle.book.proofs.Numbers.{part-bytes}
+use Rattle.book.proofs.AnyCharts.{page-read}
 use Rattle.charts.specs.Moves.{pageMoved}
 use Rattle.charts.proofs.PageMoves.{bytesWith, page-moved-with}
 use Rattle.charts.proofs.ChartMoves.{movedPages, other-page, own-page}

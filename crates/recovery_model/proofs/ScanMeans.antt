@@ -132,7 +132,7 @@ module _ (rs : List Row) (al : allowedLog rs ≡ true) (log bs : List ℕ) (is :
       rw (row-kind h) (go (isRowBytes (suc (length rs)) (take 16 bs)) (fits next) (lawful (ledger rs) next) (withinLimits (ledger rs) next) row-ruled e)
     where
       tested : (s f t u : Bool) → ℕ
-      tested s f t u = cond (not s) 3 (cond (not (f && t)) 3 (cond (not u) 3 0))
+      tested s f t u = cond (not s) 3 (cond (not (f && t)) 16 (cond (not u) 17 0))
 
       go : (s f t u : Bool)
           → judgedRead log (length rs) before (Valid (coded next)) ≡ ruled log (length rs) before next (cond t (cond u Allowed OverLimit) Unlawful)

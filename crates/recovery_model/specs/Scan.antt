@@ -24,11 +24,11 @@ use Rattle.recovery_model.specs.declared.Judged.the-variants.{Taken, End
 abbrev pub rowIn : List ℕ → ℕ → ℕ → book.Row
 rowIn log k n = cond (leb 1 n && leb n k) (rowOf (rowBytesAt log (n - 1))) (book.Row.begin 0)
 
--- 01, open, log: the refusal number of a bad row
+-- 02, L8: the refusal number of a bad row
 abbrev pub numberOfReason : Reason → ℕ
 numberOfReason Bytes = 3
-numberOfReason Rule = 3
-numberOfReason Limit = 3
+numberOfReason Rule = 16
+numberOfReason Limit = 17
 
 -- what one row comes to, and the tables after it
 pub record Judgement : Type 0 where

@@ -2,13 +2,14 @@
 use Prim.Native.Nat.{ℕ}
 use native.Mathlib.Omega.{arith}
 use mathlib.Core.Bool.{Bool, true, false, cond, not, _&&_}
-use mathlib.Core.Logic.{_⊎_, inl, inr, ⊎-elim}
+use mathlib.Core.Logic.{_≢_}
 use mathlib.Core.Path.{_≡_, refl, ap, sym, _∙_, subst}
 use mathlib.Core.List.{List}
 use lib.ListN.{length}
 use lib.IntN.{ℤ, pos}
 use lib.Dec.{eqb, ltb}
 use borrow.Author.Tests.{eqb-true}
+use Rattle.book.specs.Lists.{member}
 use Rattle.book.specs.Calls.{Call}
 use Rattle.book.specs.Limits.{cellLimit, logLength, pageLimit}
 use Rattle.book.specs.Rows.{Row}
@@ -16,12 +17,14 @@ use Rattle.book.specs.Power.{Book, Fuse}
 use Rattle.book.specs.Book.{ended, reopened, reopen}
 use Rattle.book.specs.LogBytes.{Log, good, bad, readLog}
 use Rattle.book.specs.Opening.{Opened, rejected, recovered, badPage, checked, openBytes}
-use Rattle.book.specs.Reading.{ReadsExactly, Demand2Reading}
+use Rattle.book.specs.Reading.{logNumbers, ReadsExactly, Demand2Reading}
+use Rattle.book.proofs.Lists.{clash}
+use Rattle.book.proofs.Reasons.{each-number}
 use Rattle.book.proofs.Reading.{demand-2-reading}
 use Rattle.state.specs.World.{World, rightLengths, works, stateOf, tableOf, cleared}
 use Rattle.state.specs.Contracts.{Answered, answered, badCell, formats, openedWorld, FormatPost, OpenPost, CallPost}
 use Rattle.state.proofs.OpenedStores.{opens-bytes, opens-refused}
-use Rattle.sessions.specs.Demand1.{FormatAnswers, OpenAnswers, Demand1}
+use Rattle.sessions.specs.Demand1.{openNumbers, FormatAnswers, OpenAnswers, Demand1}
 use Rattle.sessions.proofs.LentBuffers.{right}
 
 -- ── Format ────────────────────────────────────────────────────────────────────────────────────────────────────────────
@@ -53,33 +56,40 @@ module _ (f : Fuse) (given : World) where
       go true e = rw e (record {
         number = refl;
         refused = λ z. absurd (omega arith);
-        rejected = ⊎-elim (λ z. absurd (omega arith)) (λ z. absurd (omega arith));
+        rejected = λ z. clash false z refl;
         failed = λ z. absurd (omega arith);
       })
       go false e = rw e (record {
         number = refl;
         refused = λ z. absurd (omega arith);
-        rejected = ⊎-elim (λ z. absurd (omega arith)) (λ z. absurd (omega arith));
+        rejected = λ z. clash false z refl;
         failed = λ z. refl;
       })
 
   -- 01: the store is rejected
-  says-rejected : (n place : ℕ) → (n ≡ 3) ⊎ (n ≡ 4) → Says (rejected n place (given .log))
+  says-rejected : (n place : ℕ) → member n openNumbers ≡ true → n ≢ 1 → n ≢ 5 → Says (rejected n place (given .log))
   unfolding stateOf tableOf
-  says-rejected n place h = record {
-    number = ⊎-elim (λ (e : n ≡ 3). rw e) (λ (e : n ≡ 4). rw e) h;
-    refused = λ z. absurd (⊎-elim (λ (e : n ≡ 3). omega arith) (λ (e : n ≡ 4). omega arith) h);
+  says-rejected n place listed one five = record {
+    number = listed;
+    refused = λ z. absurd (one z);
     rejected = λ z. refl;
-    failed = λ z. absurd (⊎-elim (λ (e : n ≡ 3). omega arith) (λ (e : n ≡ 4). omega arith) h);
+    failed = λ z. absurd (five z);
   }
+
+  -- for its log
+  says-bad : (n place : ℕ) → member n logNumbers ≡ true → Says (rejected n place (given .log))
+  says-bad n place = each-number (λ k. Says (rejected k place (given .log)))
+      (says-rejected 3 place refl (λ e. omega arith) (λ e. omega arith))
+      (says-rejected 16 place refl (λ e. omega arith) (λ e. omega arith))
+      (says-rejected 17 place refl (λ e. omega arith) (λ e. omega arith)) n
 
   says : (x : ReadsExactly (given .log)) (l : Log) → readLog (given .log) ≡ l → Says (checked f (given .log) (given .charts) l)
   unfolding reopen
-  says x (bad n row) e = says-rejected n row (inl (x .refuses n row e .0))
+  says x (bad n row) e = says-bad n row (x .refuses n row e .0)
   says x (good rs) e = go (ltb (badPage rs (given .charts)) pageLimit)
     where
       go : (t : Bool) → Says (cond t (rejected 4 (badPage rs (given .charts)) (given .log)) (recovered rs (given .charts) (reopen f rs)))
-      go true = says-rejected 4 (badPage rs (given .charts)) (inr refl)
+      go true = says-rejected 4 (badPage rs (given .charts)) refl (λ e. omega arith) (λ e. omega arith)
       go false = says-ended rs _ (reopened f rs)
 
   open-answers : (x : Answered) → OpenPost f given x → OpenAnswers given x
@@ -93,7 +103,7 @@ module _ (f : Fuse) (given : World) where
       go false e = subst (OpenAnswers given) (sym (post .is ∙ opens-refused f given e)) (record {
         number = refl;
         refused = λ z. refl;
-        rejected = ⊎-elim (λ z. absurd (omega arith)) (λ z. absurd (omega arith));
+        rejected = λ z. clash false z refl;
         failed = λ z. absurd (omega arith);
       })
 

@@ -2,26 +2,29 @@
 use Prim.Native.Nat.{ℕ}
 use native.Mathlib.Omega.{arith}
 use mathlib.Core.Bool.{Bool, true, false, cond}
-use mathlib.Core.Path.{_≡_, refl, ap, sym, _∙_, subst}
+use mathlib.Core.Path.{_≡_, refl, ap, ap₂, sym, _∙_, subst}
+use mathlib.Core.Logic.{_↔_}
 use mathlib.Core.List.{List, [], _++_, append-nil, append-assoc, append-cancel-left}
 use lib.ListN.{length}
-use lib.IntN.{ℤ}
+use lib.IntN.{ℤ, pos}
 use lib.Dec.{ltb}
 use borrow.Author.Tests.{eqb-true, ltb-true, ltb-false}
-use Rattle.book.specs.Lists.{StartsWith}
+use Rattle.book.specs.Lists.{StartsWith, member}
 use Rattle.book.specs.Limits.{logLength, pageLimit}
 use Rattle.book.specs.Rows.{Row}
 use Rattle.book.specs.Ledger.{ledger}
 use Rattle.book.specs.Calls.{Call, ending}
 use Rattle.book.specs.Power.{Book, Fuse, rowsOf}
-use Rattle.book.specs.Book.{Outcome, closing, adds, through, value, answer, refused, ended, call, reopened, reopen}
+use Rattle.book.specs.Book.{Answer, Outcome, closing, adds, through, value, answer, refused, ended, call, reopened, reopen}
+use Rattle.book.specs.Numbers.{AreBytes}
 use Rattle.book.specs.LogBytes.{Log, good, bad, logBytes, readLog}
 use Rattle.book.specs.Opening.{Opened, rejected, recovered, badPage, checked, openBytes}
-use Rattle.book.specs.Reading.{ReadsExactly, Demand2Reading}
+use Rattle.book.specs.Reading.{logNumbers, BadFor, ReadsExactly, Demand2Reading}
 use Rattle.book.proofs.Lists.{clash}
 use Rattle.book.proofs.Steps.{extends-through, extends-open}
 use Rattle.book.proofs.Sound.{ended-book, Decided, refuses, accepts, decided}
 use Rattle.book.proofs.Openings.{ended-open, reopened-stored}
+use Rattle.book.proofs.LogBytes.{not-good}
 use Rattle.book.proofs.Reading.{demand-2-reading}
 use Rattle.state.specs.World.{World, rightLengths, LogIs, stateOf, tableOf, worldOf, Represents}
 use Rattle.state.specs.Contracts.{Answered, openedWorld, OpenPost, CallPost, chartsAfter, outcomeIn, byBook}
@@ -102,16 +105,16 @@ reopen-landed w f rs e =
     (e ∙ ap (λ (c : Book). logBytes (c .stored)) (ended-book _ (reopened f rs)))
 
 -- an opening by the book answers 0 or 5
-ended-not-3 : (v : ℤ) (b : Book) → ended v b .answer .number ≡ 3 → ⊥
-ended-not-3 v b = go (b .isOpen)
+ended-reads : (v : ℤ) (b : Book) → member (ended v b .answer .number) logNumbers ≡ false
+ended-reads v b = go (b .isOpen)
   where
-    go : (t : Bool) → cond t (record { answer = answer 0 v; book = b }) (refused 5 b) .answer .number ≡ 3 → ⊥
-    go true e = omega arith
-    go false e = omega arith
+    go : (t : Bool) → member (cond t (record { answer = answer 0 v; book = b }) (refused 5 b) .answer .number) logNumbers ≡ false
+    go true = refl
+    go false = refl
 
-not-3 : (f : Fuse) (rs : List Row) → reopen f rs .answer .number ≡ 3 → ⊥
+reopen-reads : (f : Fuse) (rs : List Row) → member (reopen f rs .answer .number) logNumbers ≡ false
 unfolding reopen
-not-3 f rs = ended-not-3 _ (reopened f rs)
+reopen-reads f rs = ended-reads _ (reopened f rs)
 
 abbrev is-bad : Log → Bool
 is-bad (good rs) = false
@@ -120,6 +123,12 @@ is-bad (bad n r) = true
 abbrev rows-of : Log → List Row → List Row
 rows-of (good rs) us = rs
 rows-of (bad n r) us = us
+
+bad-is : (n row i m : ℕ) → bad n row ≡ bad i m → (n ≡ i) × (row ≡ m)
+bad-is n row i m e = (cc, cc)
+
+row-of : {n m : ℕ} → pos n ≡ pos m → n ≡ m
+row-of e = cc
 
 module _ (f : Fuse) (w : World) (x : ReadsExactly (w .log)) where
   abbrev Says : Opened → Type 0
@@ -132,20 +141,30 @@ module _ (f : Fuse) (w : World) (x : ReadsExactly (w .log)) where
     same-page : (us : List Row) → LogIs w us → badPage rs (w .charts) ≡ badPage us (w .charts)
     same-page us is = ap (λ (l : List Row). badPage l (w .charts)) (only us is)
 
+    -- no row is bad, and the answer is none of a log
+    not-bad : (a : Answer) → member (a .number) logNumbers ≡ false → AreBytes (w .log) → (k n : ℕ)
+        → ((a ≡ answer k (pos n)) × (member k logNumbers ≡ true)) ↔ BadFor (w .log) k n
+    not-bad a other byte k n = (
+      λ p. clash (member k logNumbers) (p .1) (ap (λ (b : Answer). member (b .number) logNumbers) (sym (p .0)) ∙ other),
+      λ b. let is = sym e ∙ x .reason byte k n .1 b in absurd (not-good k n rs (sym is)),
+    )
+
     says-good : (t : Bool) → ltb (badPage rs (w .charts)) pageLimit ≡ t
         → Says (cond t (rejected 4 (badPage rs (w .charts)) (w .log)) (recovered rs (w .charts) (reopen f rs)))
     unfolding stateOf tableOf
     says-good true q = record {
-      refuses = (λ z. absurd (omega arith), λ none. absurd (none rs (x .reads rs .0 e)));
-      place = λ z. absurd (omega arith);
+      refuses = (λ z. clash false z refl, λ none. absurd (none rs (x .reads rs .0 e)));
+      place = λ z. clash false z refl;
+      reason = not-bad (answer 4 (pos (badPage rs (w .charts)))) refl;
       pages = λ us is bad. rw (same-page us is);
       reads = λ us is ok. let k = ltb-true (badPage rs (w .charts)) pageLimit q in let p = same-page us is in absurd (omega arith);
       done = λ us is z. absurd (omega arith);
       failed = λ us is z. absurd (omega arith);
     }
     says-good false q = record {
-      refuses = (λ z. absurd (not-3 f rs z), λ none. absurd (none rs (x .reads rs .0 e)));
-      place = λ z. absurd (not-3 f rs z);
+      refuses = (λ z. clash _ z (reopen-reads f rs), λ none. absurd (none rs (x .reads rs .0 e)));
+      place = λ z. clash _ z (reopen-reads f rs);
+      reason = not-bad (reopen f rs .answer) (reopen-reads f rs);
       pages = λ us is bad. let k = ltb-false (badPage rs (w .charts)) pageLimit q in let p = same-page us is in absurd (omega arith);
       reads = λ us is ok. (ap (λ (l : List Row). reopen f l .answer) (only us is), ap (λ (l : List Row). logBytes (reopen f l .book .stored)) (only us is));
       done = λ us is z. ap logBytes (reopen-done f rs z) ∙ ap (λ (l : List Row). logBytes (l ++ closing (ledger l))) (only us is);
@@ -161,7 +180,13 @@ module _ (f : Fuse) (w : World) (x : ReadsExactly (w .log)) where
       let never : (rs : List Row) → LogIs w rs → ⊥ = λ rs is. clash true refl (ap is-bad (sym e ∙ x .reads rs .1 is)) in
       record {
         refuses = (λ q. never, λ none. k .0);
-        place = λ q. (row, k .1, rw (k .0));
+        place = λ q. (row, k .1, refl);
+        reason = λ byte i m. (
+          λ p. x .reason byte i m .0 (e ∙ ap₂ bad (ap (λ (a : Answer). a .number) (p .0)) (row-of (ap (λ (a : Answer). a .value) (p .0)))),
+          λ b. let is = sym e ∙ x .reason byte i m .1 b in
+              let at = bad-is n row i m is in
+              (ap₂ (λ (i m : ℕ). answer i (pos m)) (at .0) (at .1), subst (λ (i : ℕ). member i logNumbers ≡ true) (at .0) (k .0)),
+        );
         pages = λ rs is. absurd (never rs is);
         reads = λ rs is. absurd (never rs is);
         done = λ rs is. absurd (never rs is);

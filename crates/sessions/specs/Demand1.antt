@@ -4,7 +4,7 @@
 use Prim.Native.Nat.{ℕ}
 use mathlib.Core.Bool.{true, false}
 use mathlib.Core.Path.{_≡_}
-use mathlib.Core.Logic.{_≢_, _⊎_}
+use mathlib.Core.Logic.{_≢_}
 use mathlib.Core.List.{List, [], _∷_}
 use lib.IntN.{ℤ, pos}
 use Rattle.book.specs.Lists.{member}
@@ -13,12 +13,16 @@ use Rattle.book.specs.Power.{Fuse}
 use Rattle.state.specs.World.{World, works, cleared}
 use Rattle.state.specs.Contracts.{Answered, answered, failedAfter, numbers, FormatPost, OpenPost, CallPost}
 
--- 01, "Refusals by place": the numbers of format and of open; `numbers` has those of the other calls
+-- 01, "Refusals by place", and 02, L8: the numbers of format and of open; `numbers` has those of the other calls
 abbrev pub formatNumbers : List ℕ
 formatNumbers = 0 ∷ 1 ∷ 2 ∷ []
 
 abbrev pub openNumbers : List ℕ
-openNumbers = 0 ∷ 1 ∷ 3 ∷ 4 ∷ 5 ∷ []
+openNumbers = 0 ∷ 1 ∷ 3 ∷ 16 ∷ 17 ∷ 4 ∷ 5 ∷ []
+
+-- those of an opening that rejects the store: its log, or a page
+abbrev pub rejections : List ℕ
+rejections = 3 ∷ 16 ∷ 17 ∷ 4 ∷ []
 
 -- what is said of a format
 pub record FormatAnswers (given : World) (x : Answered) : Type 0 where
@@ -33,8 +37,9 @@ pub record OpenAnswers (given : World) (x : Answered) : Type 0 where
   pub number : member (x .answer .number) openNumbers ≡ true
   -- a refusal changes no byte
   pub refused : x .answer .number ≡ 1 → x ≡ answered 1 (pos 0) given
-  -- 01: "After 3 or 4 log and charts are unchanged, while copy, tail and scopes end as after a power failure and the store is closed."
-  pub rejected : (x .answer .number ≡ 3) ⊎ (x .answer .number ≡ 4) → x ≡ answered (x .answer .number) (x .answer .value) (cleared (given .log) (given .charts))
+  -- 01: "After 3 or 4 log and charts are unchanged, while copy, tail and scopes end as after a power failure and the store is closed." 02, L8: "16 and 17 leave
+  -- everything as 3 does."
+  pub rejected : member (x .answer .number) rejections ≡ true → x ≡ answered (x .answer .number) (x .answer .value) (cleared (given .log) (given .charts))
   -- 01, "Power": copy, tail and scopes are cleared and the store is closed; the charts are as they were, and demand 2 says which rows the log has
   pub failed : x .answer .number ≡ 5 → x ≡ failedAfter (x .writes .rows) (cleared (x .world .log) (given .charts))
 

@@ -7,16 +7,17 @@ use mathlib.Core.Logic.{_↔_}
 use mathlib.Core.List.{List, _++_}
 use lib.ListN.{length}
 use lib.IntN.{ℤ, pos}
-use Rattle.book.specs.Lists.{StartsWith, padTo}
+use Rattle.book.specs.Lists.{StartsWith, padTo, member}
 use Rattle.book.specs.Limits.{pageLimit}
 use Rattle.book.specs.Rows.{Row}
 use Rattle.book.specs.Ledger.{ledger}
 use Rattle.book.specs.Calls.{Call, Typed}
 use Rattle.book.specs.Power.{Book, Fuse, rowsOf}
-use Rattle.book.specs.Book.{closing, adds, call, reopen}
+use Rattle.book.specs.Book.{answer, closing, adds, call, reopen}
+use Rattle.book.specs.Numbers.{AreBytes}
 use Rattle.book.specs.LogBytes.{rowsBytes, logBytes}
 use Rattle.book.specs.Opening.{badPage}
-use Rattle.book.specs.Reading.{FirstBad}
+use Rattle.book.specs.Reading.{FirstBad, logNumbers, BadFor}
 use Rattle.state.specs.World.{World, rightLengths, LogIs, tailLength, cleared, Represents}
 use Rattle.state.specs.Contracts.{Answered, answered, OpenPost, CallPost}
 
@@ -47,10 +48,14 @@ pub record WritesRows (cells : ℕ → ℤ) (b : Book) (k : Call) (x : Answered)
 
 -- an opening with this fuse
 pub record Reads (f : Fuse) (given : World) (x : Answered) : Type 0 where
-  -- refused by 3 exactly when the bytes are those of no allowed log
-  pub refuses : (x .answer .number ≡ 3) ↔ ((rs : List Row) → LogIs given rs → ⊥)
+  -- refused by 3, 16 or 17 exactly when the bytes are those of no allowed log
+  pub refuses : (member (x .answer .number) logNumbers ≡ true) ↔ ((rs : List Row) → LogIs given rs → ⊥)
   -- with the first bad row, and log and charts unchanged
-  pub place : x .answer .number ≡ 3 → (n : ℕ) × FirstBad (given .log) n × (x ≡ answered 3 (pos n) (cleared (given .log) (given .charts)))
+  pub place : member (x .answer .number) logNumbers ≡ true →
+      (n : ℕ) × FirstBad (given .log) n × (x ≡ answered (x .answer .number) (pos n) (cleared (given .log) (given .charts)))
+  -- 02, L8: by this number with this row exactly when the row is the first bad one and the number that of the reason
+  pub reason : AreBytes (given .log) → (k n : ℕ) →
+      ((x .answer ≡ answer k (pos n)) × (member k logNumbers ≡ true)) ↔ BadFor (given .log) k n
   -- an allowed log beside a bad page is refused by 4 with the first such page, and log and charts unchanged
   pub pages : (rs : List Row) → LogIs given rs → badPage rs (given .charts) < pageLimit →
       x ≡ answered 4 (pos (badPage rs (given .charts))) (cleared (given .log) (given .charts))

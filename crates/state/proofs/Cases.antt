@@ -2,7 +2,7 @@
 use mathlib.Core.Path.{_≡_, refl}
 use mathlib.Core.Logic.{_≢_}
 use Rattle.state.specs.declared.answers.Answer.{Answer}
-use Rattle.state.specs.declared.answers.Answer.the-variants.{Done, Visit, Row, Grams, Wrote, WrongLength, CellOutOfRange, BadRow, BadPage, Closed, VisitsUsedUp, TooManyActive, NoRoom, NotActive, NoSuchCell, ScopesUsedUp, SameVisit, HoldsNone, NoSuchPage}
+use Rattle.state.specs.declared.answers.Answer.the-variants.{Done, Visit, Row, Grams, Wrote, WrongLength, CellOutOfRange, WrongBytes, BreaksRule, OverLimit, BadPage, Closed, VisitsUsedUp, TooManyActive, NoRoom, NotActive, NoSuchCell, ScopesUsedUp, SameVisit, HoldsNone, NoSuchPage}
 use Rattle.state.specs.Answers.{numberAndValue, refusal, caseOf}
 
 pub refusal-case : (a : Answer) → numberAndValue a .number ≢ 0 → caseOf a ≡ refusal
@@ -13,7 +13,9 @@ refusal-case (Grams z) h = absurd (h refl)
 refusal-case (Wrote n) h = absurd (h refl)
 refusal-case WrongLength h = refl
 refusal-case (CellOutOfRange c) h = refl
-refusal-case (BadRow n) h = refl
+refusal-case (WrongBytes n) h = refl
+refusal-case (BreaksRule n) h = refl
+refusal-case (OverLimit n) h = refl
 refusal-case (BadPage p) h = refl
 refusal-case Closed h = refl
 refusal-case VisitsUsedUp h = refl

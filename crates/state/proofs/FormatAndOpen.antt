@@ -45,7 +45,7 @@ pub format-1-before-2 : formats (oneValue 0 (pos 2000000)) (cleared [] []) ≡ a
 unfolding formats
 format-1-before-2 = refl
 
--- ── Open: 1, 3, 4, 5 (3, 4 and 5 in the book's TwoViolations) ─────────────────────────────────────────────────────────
+-- ── Open: 1, then 3, 16 or 17, 4, 5 (all but the first in the book's TwoViolations) ───────────────────────────────────
 
 -- 1 before 3: the log has one byte, and that is of no kind
 pub open-1-before-3 : opens none (cleared (7 ∷ []) []) ≡ answered 1 (pos 0) (cleared (7 ∷ []) [])

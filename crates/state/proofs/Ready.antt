@@ -8,6 +8,7 @@ use lib.ListN.{length, take}
 use lib.IntN.{ℤ}
 use lib.Dec.{eqb, ltb}
 use borrow.Author.Tests.{eqb-true, ltb-true, ltb-false, lt-ltb}
+use Rattle.book.specs.Lists.{member}
 use Rattle.book.specs.Limits.{logLength, chartsLength, pageLimit}
 use Rattle.book.specs.Rows.{Row}
 use Rattle.book.specs.Rules.{allowedLog}
@@ -16,11 +17,11 @@ use Rattle.book.specs.Power.{Book, Fuse}
 use Rattle.book.specs.Book.{reopened, reopen}
 use Rattle.book.specs.Numbers.{AreBytes}
 use Rattle.book.specs.LogBytes.{Log, good, bad, logBytes, readLog}
-use Rattle.book.specs.Reading.{Demand2Reading}
+use Rattle.book.specs.Reading.{logNumbers, Demand2Reading}
 use Rattle.book.specs.Pages.{pageAt, isPage}
 use Rattle.book.specs.Opening.{rejected, recovered, badPage, checked, openBytes}
 use Rattle.book.specs.Logs.{Sound}
-use Rattle.book.proofs.Lists.{and-l, and-r}
+use Rattle.book.proofs.Lists.{clash, and-l, and-r}
 use Rattle.book.proofs.InvariantKept.{few-rows}
 use Rattle.book.proofs.Steps.{extends-open}
 use Rattle.book.proofs.Sound.{ended-book, sound-reopened}
@@ -49,7 +50,7 @@ unfolding openBytes Demand2Reading
 accepted f log charts long = go (readLog log) refl
   where
     go : (l : Log) → readLog log ≡ l → checked f log charts l .answer .number ≡ 0 → Accepted log charts
-    go (bad n row) e z = let k = demand-2-reading log long .refuses n row e .0 in absurd (omega arith)
+    go (bad n row) e z = clash (member n logNumbers) (demand-2-reading log long .refuses n row e .0) (ap (λ (k : ℕ). member k logNumbers) z)
     go (good rs) e z = pages (ltb (badPage rs charts) pageLimit) refl z
       where
         pages : (t : Bool) → ltb (badPage rs charts) pageLimit ≡ t

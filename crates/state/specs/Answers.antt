@@ -1,4 +1,4 @@
--- Document 01's refusal number and value for each case of an answer. Values not named are 0.
+-- The refusal number and the value of each case of an answer, by document 01, and by 02, L8 for 16 and 17. Values not named are 0.
 use mathlib.Core.Path.{_≡_}
 use mathlib.Core.Logic.{_⊎_}
 use lib.IntN.{pos}
@@ -8,7 +8,7 @@ use Rattle.book.specs.Writes.{Writes}
 use Rattle.book.specs.Calls.{Return, theVisit, theRow, theCell, zeroValue}
 use Rattle.state.specs.declared.answers.Answer.{Answer}
 use Rattle.state.specs.declared.answers.Writes.{Writes as TheWrites}
-use Rattle.state.specs.declared.answers.Answer.the-variants.{Done, Visit, Row, Grams, Wrote, WrongLength, CellOutOfRange, BadRow, BadPage, Closed, VisitsUsedUp, TooManyActive, NoRoom, NotActive, NoSuchCell, ScopesUsedUp, SameVisit, HoldsNone, NoSuchPage}
+use Rattle.state.specs.declared.answers.Answer.the-variants.{Done, Visit, Row, Grams, Wrote, WrongLength, CellOutOfRange, WrongBytes, BreaksRule, OverLimit, BadPage, Closed, VisitsUsedUp, TooManyActive, NoRoom, NotActive, NoSuchCell, ScopesUsedUp, SameVisit, HoldsNone, NoSuchPage}
 
 abbrev pub numberAndValue : Answer → book.Answer
 numberAndValue Done = done (pos 0)
@@ -18,7 +18,9 @@ numberAndValue (Grams z) = done z
 numberAndValue (Wrote n) = done (pos n)
 numberAndValue WrongLength = refusedBy 1
 numberAndValue (CellOutOfRange c) = book.answer 2 (pos (c .0))
-numberAndValue (BadRow n) = book.answer 3 (pos (n .0))
+numberAndValue (WrongBytes n) = book.answer 3 (pos (n .0))
+numberAndValue (BreaksRule n) = book.answer 16 (pos (n .0))
+numberAndValue (OverLimit n) = book.answer 17 (pos (n .0))
 numberAndValue (BadPage p) = book.answer 4 (pos p)
 numberAndValue Closed = refusedBy 5
 numberAndValue VisitsUsedUp = refusedBy 6
@@ -54,7 +56,9 @@ caseOf (Grams z) = grams
 caseOf (Wrote n) = written
 caseOf WrongLength = refusal
 caseOf (CellOutOfRange c) = refusal
-caseOf (BadRow n) = refusal
+caseOf (WrongBytes n) = refusal
+caseOf (BreaksRule n) = refusal
+caseOf (OverLimit n) = refusal
 caseOf (BadPage p) = refusal
 caseOf Closed = refusal
 caseOf VisitsUsedUp = refusal

@@ -1,4 +1,4 @@
-// What a call answers: its result, or the reason why it was refused. `specs/Answers` has document 01's number and value for each case.
+// What a call answers: its result, or the reason why it was refused. `specs/Answers` has the number and value of each case, by documents 01 and 02.
 ghost use mathlib.Core.Path.{_≡_};
 ghost use lib.IntN.{pos};
 ghost use Rattle.state.specs.Answers.{numberAndValue};
@@ -15,7 +15,9 @@ pub enum Answer {
     Wrote(u16), // the rows that an opening wrote
     WrongLength,
     CellOutOfRange(Cell),
-    BadRow(Lsn),
+    WrongBytes(Lsn), // the first row of the log that is not allowed, and why
+    BreaksRule(Lsn),
+    OverLimit(Lsn),
     BadPage(u8),
     Closed, // the store was closed, or the power failed during the call and it is closed
     VisitsUsedUp,
@@ -60,7 +62,9 @@ pub fn number_of(a: Answer) -> u8
         Answer::Wrote(_) => 0,
         Answer::WrongLength => 1,
         Answer::CellOutOfRange(_) => 2,
-        Answer::BadRow(_) => 3,
+        Answer::WrongBytes(_) => 3,
+        Answer::BreaksRule(_) => 16,
+        Answer::OverLimit(_) => 17,
         Answer::BadPage(_) => 4,
         Answer::Closed => 5,
         Answer::VisitsUsedUp => 6,
@@ -94,7 +98,9 @@ pub fn value_of(a: Answer) -> i32
         Answer::Wrote(n) => as_value(n),
         Answer::WrongLength => 0,
         Answer::CellOutOfRange(c) => as_value(c.0 as u16),
-        Answer::BadRow(n) => as_value(n.0),
+        Answer::WrongBytes(n) => as_value(n.0),
+        Answer::BreaksRule(n) => as_value(n.0),
+        Answer::OverLimit(n) => as_value(n.0),
         Answer::BadPage(p) => as_value(p as u16),
         Answer::Closed => 0,
         Answer::VisitsUsedUp => 0,

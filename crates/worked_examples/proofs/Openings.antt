@@ -13,7 +13,7 @@ use Rattle.book.specs.LogBytes.{logBytes}
 use Rattle.book.specs.Pages.{chartBytes, cellOf, pageAfter}
 use Rattle.book.specs.Opening.{Opened, openBytes, noCopy}
 use Rattle.book.specs.Cases.{fives}
-use Rattle.book.proofs.WorkedExamples.{computes}
+use Rattle.book.proofs.WorkedExamples.{computes, visits}
 
 -- what an example tells of an opening: the answer, the stored rows, whether the store is open, and the copy's cells 0, 7 and 223
 record Seen : Type 0 where
@@ -77,26 +77,35 @@ ready-openings : ReadyOpenings
 unfolding computes
 ready-openings = record { blank-pages = refl; flushed-pages = refl; again = refl; bears-undo = refl; bears-change = refl; whole-visit = refl; outermost = refl }
 
--- ── Refused by 3, with the first bad row ──────────────────────────────────────────────────────────────────────────────
+-- ── Refused by 3, 16 or 17, with the first bad row ────────────────────────────────────────────────────────────────────
 
 -- any charts: the log is checked first
-abbrev refusedRow : ℕ → List ℕ → Type 0
-refusedRow n log = seen (openBytes none log (set (stored 0) 0 255)) ≡ refused 3 n []
+abbrev refusedRow : ℕ → ℕ → List ℕ → Type 0
+refusedRow k n log = seen (openBytes none log (set (stored 0) 0 255)) ≡ refused k n []
 
 record BadLogs : Type 0 where
   -- in the middle: 2 has not begun; the undo row's change is not that of row 2
-  not-active : refusedRow 2 (logBytes (Row.begin 1 ∷ Row.change 2 0 (pos 9) ∷ Row.change 1 0 (pos 9) ∷ Row.commit 1 ∷ []))
-  other-change : refusedRow 3 (logBytes (Row.begin 1 ∷ Row.change 1 0 (pos 9) ∷ Row.undo 1 0 2 (pos 8) ∷ Row.abort 1 ∷ []))
+  not-active : refusedRow 16 2 (logBytes (Row.begin 1 ∷ Row.change 2 0 (pos 9) ∷ Row.change 1 0 (pos 9) ∷ Row.commit 1 ∷ []))
+  other-change : refusedRow 16 3 (logBytes (Row.begin 1 ∷ Row.change 1 0 (pos 9) ∷ Row.undo 1 0 2 (pos 8) ∷ Row.abort 1 ∷ []))
   -- row 4 has the number 5
-  wrong-number : refusedRow 4 (set (logBytes rows) (16 * 3 + 4) 5)
+  wrong-number : refusedRow 3 4 (set (logBytes rows) (16 * 3 + 4) 5)
   -- row 2, a begin row, has a cell; row 5, which hands over every cell, has one; there is no kind 8
-  unnamed-byte : refusedRow 2 (set (logBytes rows) (16 * 1 + 3) 1)
-  cell-of-kind-7 : refusedRow 5 (set (logBytes handedAll) (16 * 4 + 3) 7)
-  unknown-kind : refusedRow 7 (set (logBytes rows) (16 * 6) 8)
+  unnamed-byte : refusedRow 3 2 (set (logBytes rows) (16 * 1 + 3) 1)
+  cell-of-kind-7 : refusedRow 3 5 (set (logBytes handedAll) (16 * 4 + 3) 7)
+  unknown-kind : refusedRow 3 7 (set (logBytes rows) (16 * 6) 8)
   -- a byte after the end, in its last row
-  late-byte : refusedRow 4096 (set (logBytes rows) 65535 1)
+  late-byte : refusedRow 3 4096 (set (logBytes rows) 65535 1)
   -- rows after the end are none
-  gap : refusedRow 8 (set (logBytes (rows ++ closings)) (16 * 7) 0)
+  gap : refusedRow 3 8 (set (logBytes (rows ++ closings)) (16 * 7) 0)
+  -- row 6 changes cell 224; row 1 begins visit 0; both are a row's bytes
+  no-cell : refusedRow 16 6 (set (logBytes rows) (16 * 5 + 3) 224)
+  no-visit : refusedRow 16 1 (set (logBytes rows) 1 0)
+  -- a seventeenth visit; a byte of its row is wrong as well; it is not the next visit
+  too-many-active : refusedRow 17 17 (logBytes (visits 17))
+  bytes-first : refusedRow 3 17 (set (logBytes (visits 17)) (16 * 16 + 2) 1)
+  rule-first : refusedRow 16 17 (set (logBytes (visits 17)) (16 * 16 + 1) 18)
+  -- and where two rows are bad, the first of them says
+  first-row : refusedRow 17 17 (set (logBytes (visits 17)) (16 * 17) 255)
 
 bad-logs : BadLogs
 unfolding computes
@@ -109,6 +118,12 @@ bad-logs = record {
   unknown-kind = refl;
   late-byte = refl;
   gap = refl;
+  no-cell = refl;
+  no-visit = refl;
+  too-many-active = refl;
+  bytes-first = refl;
+  rule-first = refl;
+  first-row = refl;
 }
 
 -- ── Refused by 4, with the first bad page ─────────────────────────────────────────────────────────────────────────────

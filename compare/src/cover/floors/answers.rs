@@ -1,5 +1,5 @@
-//! The refusals of 01's table, with the line that request L2 of 02 adds to it, and those of a page redone
-//! alone (L3): each by itself, and two at once.
+//! The refusals of 01's table, with the lines that requests L2 and L8 of 02 add to it, and those of a page
+//! redone alone (L3): each by itself, and two at once.
 
 use super::Table;
 
@@ -22,14 +22,16 @@ pub const ANSWERS: Table = Table {
         (
             "open",
             &[
-                ("done", 42_000),
-                ("1 log", 180),
-                ("1 charts", 180),
-                ("1 copy", 180),
-                ("1 scopes", 170),
-                ("3", 14_000),
-                ("4", 860),
-                ("5", 1_600),
+                ("done", 46_000),
+                ("1 log", 340),
+                ("1 charts", 370),
+                ("1 copy", 350),
+                ("1 scopes", 350),
+                ("3", 12_000),
+                ("16", 9_500),
+                ("17", 160),
+                ("4", 910),
+                ("5", 1_800),
             ],
         ),
         (
@@ -182,7 +184,21 @@ pub const PAIRS: Table = Table {
     title: "two refusals at once, by place",
     lines: &[
         ("format", &[("1 and 2", 32)]),
-        ("open", &[("1 and 3", 280), ("3 and 4", 690), ("4 and 5", 30)]),
+        (
+            "open",
+            &[
+                ("1 and 3", 170),
+                ("1 and 16", 750),
+                ("1 and 17", 14),
+                ("3 and 16", 1_800),
+                ("3 and 17", 54),
+                ("3 and 4", 900),
+                ("16 and 17", 99),
+                ("16 and 4", 1_500),
+                ("17 and 4", 39),
+                ("4 and 5", 30),
+            ],
+        ),
         ("begin", &[("1 and 5", 300), ("5 and 7", 93), ("7 and 8", 64)]),
         (
             "change",

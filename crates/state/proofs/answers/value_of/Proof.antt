@@ -34,34 +34,40 @@ returns-9 : tie.Need-returns-9
 returns-9 c = rw (c .before .before .a7 .given .1) (toZ-ofZ {w = w32} {z = c .as-value6 .result} (search needs) ∙ c .as-value6 .ensures)
 
 returns-10 : tie.Need-returns-10
-returns-10 c = rw (c .enum-told3 .given .1)
+returns-10 c = rw (c .before .before .a8 .given .1) (toZ-ofZ {w = w32} {z = c .as-value7 .result} (search needs) ∙ c .as-value7 .ensures)
 
 returns-11 : tie.Need-returns-11
-returns-11 c = rw (c .enum-told4 .given .1)
+returns-11 c = rw (c .before .before .a9 .given .1) (toZ-ofZ {w = w32} {z = c .as-value8 .result} (search needs) ∙ c .as-value8 .ensures)
 
 returns-12 : tie.Need-returns-12
-returns-12 c = rw (c .enum-told5 .given .1)
+returns-12 c = rw (c .enum-told3 .given .1)
 
 returns-13 : tie.Need-returns-13
-returns-13 c = rw (c .enum-told6 .given .1)
+returns-13 c = rw (c .enum-told4 .given .1)
 
 returns-14 : tie.Need-returns-14
-returns-14 c = rw (c .enum-told7 .given .1)
+returns-14 c = rw (c .enum-told5 .given .1)
 
 returns-15 : tie.Need-returns-15
-returns-15 c = rw (c .enum-told8 .given .1)
+returns-15 c = rw (c .enum-told6 .given .1)
 
 returns-16 : tie.Need-returns-16
-returns-16 c = rw (c .enum-told9 .given .1)
+returns-16 c = rw (c .enum-told7 .given .1)
 
 returns-17 : tie.Need-returns-17
-returns-17 c = rw (c .enum-told10 .given .1)
+returns-17 c = rw (c .enum-told8 .given .1)
 
 returns-18 : tie.Need-returns-18
-returns-18 c = rw (c .enum-told11 .given .1)
+returns-18 c = rw (c .enum-told9 .given .1)
 
 returns-19 : tie.Need-returns-19
-returns-19 c = rw (c .enum-told12 .given .1)
+returns-19 c = rw (c .enum-told10 .given .1)
+
+returns-20 : tie.Need-returns-20
+returns-20 c = rw (c .enum-told11 .given .1)
+
+returns-21 : tie.Need-returns-21
+returns-21 c = rw (c .enum-told12 .given .1)
 
 pub value-of-spec : {M : Type 1} → statement M
 value-of-spec =
@@ -77,6 +83,10 @@ value-of-spec =
     (λ c κs. search needs)
     (λ c. search needs)
     (λ c. search needs)
+    (λ c. search needs)
+    (λ c κs. search needs)
+    (λ c. search needs)
+    (λ c κs. search needs)
     (λ c. search needs)
     (λ c κs. search needs)
     (λ c. search needs)
@@ -112,4 +122,6 @@ value-of-spec =
     returns-16
     returns-17
     returns-18
-    returns-19)
+    returns-19
+    returns-20
+    returns-21)
