@@ -173,7 +173,7 @@ static inline const char *chart_service_hint(int number) {
     switch (number) {
     case CHART_WRONG_BYTES: return "These bytes are no row of this store: suspect the memory chip or its supply, and if it is row 1, a log in another layout.";
     case CHART_BREAKS_RULE: return "The row is well formed, but does not follow from the rows before it: suspect other firmware, or rows of two logs, before the chip.";
-    case CHART_OVER_LIMIT: return "The row is in order but for 16 visits, 64 scopes or the free rows: suspect firmware with other limits, not the chip.";
+    case CHART_OVER_LIMIT: return "The row follows from the rows before it, but is beyond 16 active visits, 64 scopes or the free rows: suspect firmware with other limits, not the chip.";
     default: return "";
     }
 }

@@ -53,6 +53,10 @@ enum Fault {
     Limit,
     /// It takes a rule that a row of the log breaks for wrong bytes.
     Rule,
+    /// It takes wrong bytes of a row of the log for a rule that it breaks.
+    Bytes,
+    /// It gives the row after the first bad one.
+    BadRow,
 }
 
 /// A store with a fault.
@@ -83,6 +87,8 @@ impl Store for Wrong {
         match (self.fault, answer.number) {
             (Fault::Limit, 17) => answer.number = 16,
             (Fault::Rule, 16) => answer.number = 3,
+            (Fault::Bytes, 3) => answer.number = 16,
+            (Fault::BadRow, 3 | 16 | 17) => answer.value += 1,
             _ => {}
         }
         answer
@@ -281,6 +287,8 @@ fn openings_that_write_another_number_of_rows_are_found() {
 fn other_reasons_for_a_rejected_log_are_found() {
     is_found(|| Wrong::boxed(Fault::Limit), rejected_logs::play, "paper answers");
     is_found(|| Wrong::boxed(Fault::Rule), rejected_logs::play, "paper answers");
+    is_found(|| Wrong::boxed(Fault::Bytes), rejected_logs::play, "paper answers");
+    is_found(|| Wrong::boxed(Fault::BadRow), rejected_logs::play, "paper answers");
 }
 
 #[test]

@@ -60,13 +60,19 @@ static void expect_unchanged(const char *what, chart_answer a, int number, int32
     }
 }
 
-/* The opening rejects the log: the store is closed, with no byte of RAM set. Service staff read the hint. */
-static void expect_rejected(const char *what, chart_answer a, int number, int32_t value) {
+/* An opening that rejects the log, whatever was in RAM: it leaves log and charts as they were, sets no byte of RAM and counts no stored write. Service staff
+ * read the hint. */
+static void expect_rejected(const char *what, const chart_store *s, int number, int32_t value) {
     static const chart_ram zero = {{0}, {0}, {0}, {0}, {0}};
+    memset(&ram, 0xA5, sizeof ram);
+    remember();
+    chart_answer a = chart_open(s, CHART_NO_FUSE);
+    int changed = memcmp(log_before, stored_log, sizeof log_before) != 0 || memcmp(charts_before, stored_charts, sizeof charts_before) != 0;
     expect(what, a, number, value);
-    printf("  %s\n", chart_service_hint(number));
-    if (memcmp(&ram, &zero, sizeof ram) != 0) {
-        puts("   <- a rejected log left something in RAM");
+    const char *hint = chart_service_hint(chart_number(a));
+    printf("  %s\n", hint);
+    if (changed || memcmp(&ram, &zero, sizeof ram) != 0 || chart_rows(a) != 0 || chart_pages(a) != 0 || *hint == '\0') {
+        puts("   <- log or charts have changed, a byte of RAM is set, a stored write is counted, or there is no hint");
         failures++;
     }
 }
@@ -185,9 +191,9 @@ int main(void) {
 
     /* Rejected logs, each for another reason. Row 3 is a change by visit 1. */
     stored_log[CHART_ROW_LENGTH * 2 + 1] = 0;
-    expect_rejected("open: row 3 is by visit 0", chart_open(s, CHART_NO_FUSE), CHART_BREAKS_RULE, 3);
+    expect_rejected("open: row 3 is by visit 0", s, CHART_BREAKS_RULE, 3);
     stored_log[CHART_ROW_LENGTH * 2 + 2] = 1;
-    expect_rejected("open: it has a receiver as well", chart_open(s, CHART_NO_FUSE), CHART_WRONG_BYTES, 3);
+    expect_rejected("open: it has a receiver as well", s, CHART_WRONG_BYTES, 3);
     memset(stored_log, 0, sizeof stored_log);
     for (uint8_t visit = 1; visit <= CHART_ACTIVE_VISITS + 1; visit++) {
         uint8_t *row = stored_log + CHART_ROW_LENGTH * (visit - 1);
@@ -195,7 +201,7 @@ int main(void) {
         row[1] = visit;
         row[4] = visit; /* the row's own number */
     }
-    expect_rejected("open: row 17 begins a 17th visit", chart_open(s, CHART_NO_FUSE), CHART_OVER_LIMIT, 17);
+    expect_rejected("open: row 17 begins a 17th visit", s, CHART_OVER_LIMIT, 17);
 
     puts(failures == 0 ? "all as expected" : "NOT all as expected");
     return failures != 0;

@@ -106,6 +106,10 @@ pub const REASONS: [Case; 5] = [
                 (row(BEGIN, 4, 2_050), 16),
                 (row(BEGIN, 3, 2_051), 3),
                 (row(BEGIN, 4, 2_051), 3),
+                (change_row(1, 0, 1, 2_050), 17),
+                (change_row(3, 0, 1, 2_050), 16),
+                (change_row(1, 224, 1, 2_050), 16),
+                (change_row(1, 0, 1, 2_051), 3),
                 (hand_over_row(1, 2, 0, 2_050), 17),
                 (hand_over_row(2, 1, 0, 2_050), 16),
                 (hand_over_row(2, 1, 0, 2_049), 3),
@@ -114,7 +118,13 @@ pub const REASONS: [Case; 5] = [
             ] {
                 is_refused(a, number, &with(&log, next))?;
             }
-            opens(a, &with(&log, row(ABORT, 2, 2_050)), 2_046)
+            opens(a, &with(&log, row(ABORT, 2, 2_050)), 2_046)?;
+            // Sixteen begins and 2,032 changes: 2,048 rows are free and in reserve, so that both limits are met.
+            let mut log: Vec<_> = (1..=16).map(|visit| row(BEGIN, visit, visit)).collect();
+            log.extend((17..=2_048).map(|number| change_row(1, 0, 1, number)));
+            is_refused(a, 17, &with(&log, row(BEGIN, 17, 2_049)))?;
+            is_refused(a, 16, &with(&log, row(BEGIN, 18, 2_049)))?;
+            opens(a, &log, 2_048)
         },
     },
     Case {

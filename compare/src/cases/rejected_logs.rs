@@ -1,7 +1,7 @@
 //! Why a log is rejected (document 02, request L8): after an allowed log, or in the place of one of its rows,
 //! stands a row that breaks a rule, one that is beyond a limit, or one that is both, with right bytes and with
-//! wrong ones. How a row is made says which number it gets: 3 where its bytes are wrong, else 16 where it breaks
-//! a rule, else 17.
+//! wrong ones; or the row of the allowed log itself, with wrong bytes. How a row is made says which number it
+//! gets: 3 where its bytes are wrong, else 16 where it breaks a rule, else 17.
 
 use super::rows::make;
 use super::sessions::lend;
@@ -18,6 +18,8 @@ use crate::steps::{open, Step};
 struct Log {
     rows: Vec<[u8; 16]>,
     ledger: Ledger,
+    /// The row of the allowed log that stood in its place.
+    stood: Option<[u8; 16]>,
     /// The rows that stood behind that row in the allowed log.
     behind: Vec<[u8; 16]>,
 }
@@ -25,14 +27,14 @@ struct Log {
 impl Log {
     fn of(rows: Vec<[u8; 16]>) -> Log {
         let ledger = Ledger::of(&rows.iter().map(|bytes| Row::read(bytes)).collect::<Vec<_>>());
-        Log { rows, ledger, behind: Vec::new() }
+        Log { rows, ledger, ..Log::default() }
     }
 
     /// Up to the row with this place, counted from 0, or all of it.
     fn up_to(mut rows: Vec<[u8; 16]>, place: usize) -> Log {
         let mut behind = rows.split_off(place);
-        behind.drain(..behind.len().min(1));
-        Log { behind, ..Log::of(rows) }
+        let stood = behind.drain(..behind.len().min(1)).next();
+        Log { stood, behind, ..Log::of(rows) }
     }
 
     /// The row with the number of the next one.
@@ -325,6 +327,10 @@ pub fn play(bench: &mut Bench, seed: u64) -> Result<(), Failure> {
         }
         for row in beyond_limits(&log) {
             is_rejected(rng, arena, &log, row, 17)?;
+        }
+        if let Some(stood) = log.stood {
+            let damaged = with_wrong_bytes(rng, stood);
+            is_refused_before(arena, 3, &[&log.rows[..], &[damaged]].concat(), &log.behind)?;
         }
         is_rejected_after_end(rng, arena, &log)
     })?;

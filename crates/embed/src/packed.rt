@@ -1,4 +1,4 @@
-// An answer and the stored writes of a call in one number of 64 bits: the value's 32 bits lowest, document 01's refusal number in bits 32 to 39, the rows in bits 40 to 55 and the pages in
+// An answer and the stored writes of a call in one number of 64 bits: the value's 32 bits lowest, the refusal number in bits 32 to 39, the rows in bits 40 to 55 and the pages in
 // bits 56 to 63.
 ghost use mathlib.Core.Path.{_≡_};
 ghost use Rattle.book.specs.Book.{answer};

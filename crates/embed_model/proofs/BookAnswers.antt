@@ -42,7 +42,7 @@ member-below m n (x ∷ ns) h e = go (eqb n x) refl e (member-below m n ns (h .1
     go true q f rest = let k = eqb-true n x q in let lt = h .0 in omega arith
     go false q f rest = rest f
 
--- 01's numbers
+-- the refusal numbers
 numbers-below : (k : Call) → Below 15 (numbers k)
 unfolding Below
 numbers-below Call.begin = omega arith

@@ -4,7 +4,7 @@ use Rattle.book.specs.Book.{Answer, answer}
 use Rattle.book.specs.Numbers.{signed}
 use Rattle.book.specs.Writes.{Writes}
 
--- bits 32 to 39 are document 01's refusal number, the 32 bits below the value, signed
+-- bits 32 to 39 are the refusal number, the 32 bits below the value, signed
 unfoldable pub answerIn : ℕ → Answer
 answerIn r = answer (r / 4294967296 % 256) (signed 32 (r % 4294967296))
 

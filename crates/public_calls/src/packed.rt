@@ -1,4 +1,4 @@
-// An answer in one number of 64 bits: document 01's refusal number in bits 32 to 39, the value's 32 bits below.
+// An answer in one number of 64 bits: the refusal number in bits 32 to 39, the value's 32 bits below.
 use charts::numbers::bits32;
 use state::answers::Answer;
 use state::answers::number_of;

@@ -18,7 +18,6 @@ use Rattle.book.specs.Book.{ended, reopened, reopen}
 use Rattle.book.specs.LogBytes.{Log, good, bad, readLog}
 use Rattle.book.specs.Opening.{Opened, rejected, recovered, badPage, checked, openBytes}
 use Rattle.book.specs.Reading.{logNumbers, ReadsExactly, Demand2Reading}
-use Rattle.book.proofs.Lists.{clash}
 use Rattle.book.proofs.Reasons.{each-number}
 use Rattle.book.proofs.Reading.{demand-2-reading}
 use Rattle.state.specs.World.{World, rightLengths, works, stateOf, tableOf, cleared}
@@ -56,13 +55,13 @@ module _ (f : Fuse) (given : World) where
       go true e = rw e (record {
         number = refl;
         refused = λ z. absurd (omega arith);
-        rejected = λ z. clash false z refl;
+        rejected = λ z one five. absurd (z refl);
         failed = λ z. absurd (omega arith);
       })
       go false e = rw e (record {
         number = refl;
         refused = λ z. absurd (omega arith);
-        rejected = λ z. clash false z refl;
+        rejected = λ z one five. absurd (five refl);
         failed = λ z. refl;
       })
 
@@ -72,7 +71,7 @@ module _ (f : Fuse) (given : World) where
   says-rejected n place listed one five = record {
     number = listed;
     refused = λ z. absurd (one z);
-    rejected = λ z. refl;
+    rejected = λ z o f. refl;
     failed = λ z. absurd (five z);
   }
 
@@ -103,7 +102,7 @@ module _ (f : Fuse) (given : World) where
       go false e = subst (OpenAnswers given) (sym (post .is ∙ opens-refused f given e)) (record {
         number = refl;
         refused = λ z. refl;
-        rejected = λ z. clash false z refl;
+        rejected = λ z one five. absurd (one refl);
         failed = λ z. absurd (omega arith);
       })
 

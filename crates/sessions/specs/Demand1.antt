@@ -20,10 +20,6 @@ formatNumbers = 0 ∷ 1 ∷ 2 ∷ []
 abbrev pub openNumbers : List ℕ
 openNumbers = 0 ∷ 1 ∷ 3 ∷ 16 ∷ 17 ∷ 4 ∷ 5 ∷ []
 
--- those of an opening that rejects the store: its log, or a page
-abbrev pub rejections : List ℕ
-rejections = 3 ∷ 16 ∷ 17 ∷ 4 ∷ []
-
 -- what is said of a format
 pub record FormatAnswers (given : World) (x : Answered) : Type 0 where
   pub number : member (x .answer .number) formatNumbers ≡ true
@@ -37,9 +33,10 @@ pub record OpenAnswers (given : World) (x : Answered) : Type 0 where
   pub number : member (x .answer .number) openNumbers ≡ true
   -- a refusal changes no byte
   pub refused : x .answer .number ≡ 1 → x ≡ answered 1 (pos 0) given
-  -- 01: "After 3 or 4 log and charts are unchanged, while copy, tail and scopes end as after a power failure and the store is closed." 02, L8: "16 and 17 leave
-  -- everything as 3 does."
-  pub rejected : member (x .answer .number) rejections ≡ true → x ≡ answered (x .answer .number) (x .answer .value) (cleared (given .log) (given .charts))
+  -- every refusal but 1 and 5 rejects the store. 01: "After 3 or 4 log and charts are unchanged, while copy, tail and scopes end as after a power failure and the
+  -- store is closed." 02, L8: "16 and 17 leave everything as 3 does."
+  pub rejected : x .answer .number ≢ 0 → x .answer .number ≢ 1 → x .answer .number ≢ 5 →
+      x ≡ answered (x .answer .number) (x .answer .value) (cleared (given .log) (given .charts))
   -- 01, "Power": copy, tail and scopes are cleared and the store is closed; the charts are as they were, and demand 2 says which rows the log has
   pub failed : x .answer .number ≡ 5 → x ≡ failedAfter (x .writes .rows) (cleared (x .world .log) (given .charts))
 

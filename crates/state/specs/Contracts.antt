@@ -40,7 +40,7 @@ pub record Returned : Type 0 where
 abbrev pub returned : Result → List ℕ → List ℕ → List ℕ → List Scope → Returned
 returned r log charts copy scopes = record { result = r; log = log; charts = charts; copy = copy; scopes = scopes }
 
--- with 01's number and value for the answer
+-- with the refusal number and the value of the answer
 abbrev pub answeredBy : Returned → Answered
 answeredBy x = record {
   answer = numberAndValue (x .result .answer);

@@ -50,7 +50,7 @@ pub fn no_writes() -> Writes
     Writes { rows: 0, pages: 0 }
 }
 
-// Document 01's refusal number, 0 where the call was done.
+// The refusal number, 0 where the call was done.
 pub fn number_of(a: Answer) -> u8
     ensures { λ r. ⌜ r ≡ numberAndValue a .number ⌝ }
 {
