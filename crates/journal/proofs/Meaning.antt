@@ -2,17 +2,15 @@
 -- The books meant have nothing waiting and no fuse where they are closed (`Shut`), at most 64 waiting rows, and at most 4,096 rows in all.
 use Prim.Native.Nat.{ℕ, zero, suc, _+_, _-_, _≤_, _<_}
 use native.Mathlib.Omega.{arith}
-use native.Mathlib.Nat.{sub-zero}
 use mathlib.Core.Path.{_≡_, refl, ap, _∙_}
 use mathlib.Core.Bool.{Bool, true, false, cond}
 use mathlib.Core.List.{List, [], _++_, append-nil}
 use lib.ListN.{length, drop, replicate, length-append}
 use lib.Dec.{leb}
 use borrow.Author.Tests.{lt-ltb, leb-false}
-use Rattle.book.specs.Lists.{times, padTo}
+use Rattle.book.specs.Lists.{times}
 use Rattle.book.specs.Limits.{tailLimit}
 use Rattle.book.specs.Rows.{Row}
-use Rattle.book.specs.LogBytes.{rowsBytes}
 use Rattle.book.specs.Power.{Book, Fuse, none, left, rowsOf, closed, storeRow, force, storePage, append, add}
 use Rattle.book.proofs.Lists.{clash}
 use Rattle.book.proofs.Steps.{Shut, bookOf, extends-times, extends-force}
@@ -23,12 +21,13 @@ use Rattle.journal.specs.Journal.{Journal, forcedUpTo, tailAfter, forced
 use Rattle.journal.specs.Meaning.{phaseOf, controlOf, journalOf}
 use Rattle.journal.proofs.RowsInBytes.{snoc-length, put-next, left-rows, shift-rows, tail-long}
 use Rattle.journal.proofs.RunsOfRows.{ranOf, runs-rows, others-wait}
+use Rattle.journal.proofs.Shifts.{none-forced}
 
 -- ── Force ─────────────────────────────────────────────────────────────────────────────────────────────────────────────
 
 -- the journal after a run of its first m rows that ended so
 abbrev afterUpTo : ℕ → Journal → Ran → Journal
-afterUpTo m j o = record { control = controlAfter (j .control) (j .control .waiting - m) (o .run); log = o .log; tail = tailAfter (o .run .cut) m (j .tail) }
+afterUpTo m j o = record { control = controlAfter (j .control) (j .control .waiting - m) (o .run); log = o .log; tail = tailAfter (o .run .cut) m (j .control .waiting) (j .tail) }
 
 -- an open book
 open-up-to : (m : ℕ) (s w : List Row) (f : Fuse) → m ≤ length w → length w ≤ 64 → length s + length w ≤ 4096
@@ -49,11 +48,6 @@ open-up-to m s w f h few room =
         rw (shift-rows m (suc (length s)) w h few, e .0, e .1, left-rows m w h, n)
     go s′ w′ f′ false wait shut = let e = shut refl in rw (e .0, e .1, tail-long (suc (length s)) w few)
 
--- no row, no write
-none-forced : (b : Book) → forcedUpTo 0 (journalOf b) ≡ journalOf b
-unfolding forcedUpTo runs chunks journalOf controlOf
-none-forced b = rw (sub-zero (length (b .waiting)), append-nil (padTo 1024 0 (rowsBytes (suc (length (b .stored))) (b .waiting))))
-
 -- the first m waiting rows, one write each
 pub forced-up-to : (m : ℕ) (b : Book) → Shut b → length (b .waiting) ≤ 64 → length (rowsOf b) ≤ 4096 → m ≤ length (b .waiting)
     → forcedUpTo m (journalOf b) ≡ journalOf (times m storeRow b)
@@ -63,7 +57,7 @@ forced-up-to m b = go (b .stored) (b .waiting) (b .fuse) (b .isOpen)
         → forcedUpTo m (journalOf (bookOf s w f o)) ≡ journalOf (times m storeRow (bookOf s w f o))
     go s w f true shut few room h = open-up-to m s w f h few (omega (arith, length-append s w))
     go s w f false shut few room h =
-        let e = ap length (shut refl .0) in let z : m ≡ 0 = omega arith in rw z (none-forced (bookOf s w f false))
+        let e = ap length (shut refl .0) in let z : m ≡ 0 = omega arith in rw z (none-forced (journalOf (bookOf s w f false)))
 
 -- the journal after a run of all its rows that ended so
 abbrev afterAll : Journal → Ran → Journal

@@ -75,17 +75,22 @@ rows-left (suc m) (r ∷ w) h = let k = rows-left m w (omega arith) in omega ari
 pub left-rows : (m : ℕ) (w : List Row) → m ≤ length w → length (drop m w) ≡ length w - m
 left-rows m w h = let k = rows-left m w h in omega arith
 
--- a tail without its first m rows is the tail of the other rows
+-- a tail without the first m of its rows is the tail of the other rows
 pub shift-rows : (m n : ℕ) (w : List Row) → m ≤ length w → length w ≤ 64
-    → shifted m (padTo 1024 0 (rowsBytes n w)) ≡ padTo 1024 0 (rowsBytes (n + m) (drop m w))
+    → shifted m (length w) (padTo 1024 0 (rowsBytes n w)) ≡ padTo 1024 0 (rowsBytes (n + m) (drop m w))
 shift-rows m n w h few =
     let k = rows-left m w h in
     let a = rows-long n w in
     let b = rows-long (n + m) (drop m w) in
     let z = 1024 - length (rowsBytes n w) in
     let y = 1024 - length (rowsBytes (n + m) (drop m w)) in
-    let e : blank z ++ blank (16 * m) ≡ blank y = replicate-append-replicate z (16 * m) 0 ∙ blank-same (z + 16 * m) y (omega arith) in
-    rw (drop-rows m n w (blank z) h, append-assoc (rowsBytes (n + m) (drop m w)) (blank z) (blank (16 * m)), e)
+    let e : blank (16 * m) ++ blank z ≡ blank y = replicate-append-replicate (16 * m) z 0 ∙ blank-same (16 * m + z) y (omega arith) in
+    rw (
+      drop-rows m n w (blank z) h,
+      take-at (rowsBytes (n + m) (drop m w)) (blank z) (16 * (length w - m)) (omega arith),
+      drop-at (rowsBytes n w) (blank z) (16 * length w) a,
+      e,
+    )
 
 -- 01: the tail has 1,024 bytes
 pub tail-long : (n : ℕ) (w : List Row) → length w ≤ 64 → length (padTo 1024 0 (rowsBytes n w)) ≡ 1024

@@ -1,14 +1,17 @@
 -- Parts of a list that are replaced: a copy of the same length, two parts one after the other, and a turn of the loop that moves the tail's rows to the
--- front. Assumes nothing.
+-- front, and that without a row to store nothing moves. Assumes nothing.
 use mathlib.Core.Path.{_≡_, ap, ap₂, sym, _∙_}
 use mathlib.Core.List.{List, _++_, append-nil, append-assoc}
-use Prim.Native.Nat.{ℕ, suc, _+_, _-_, _≤_, _<_}
+use Prim.Native.Nat.{ℕ, suc, _+_, _-_, _*_, _≤_, _<_}
 use native.Mathlib.Omega.{arith}
+use native.Mathlib.Nat.{sub-zero}
 use native.Mathlib.Numerals.{add-one}
-use lib.ListN.{length, take, drop, getD, set, replicate, length-drop, drop-of-length-le}
-use lib.Seq.{take-length, take-all, take-take, take-append-le, drop-drop, length-take-le, take-suc, drop-cons, getD-drop, getD-append-add, set-at, take-at, drop-at}
+use lib.ListN.{length, take, drop, getD, set, replicate, length-drop, drop-of-length-le, take-append-drop}
+use lib.Seq.{take-length, take-take, take-append-le, drop-drop, length-take-le, take-suc, drop-cons, getD-drop, getD-append-add, set-at, take-at, drop-at}
 use lib.Seq.{append-snoc}
 use Rattle.journal.specs.Writes.{putAt}
+use Rattle.journal.specs.Force.{chunks, runs}
+use Rattle.journal.specs.Journal.{Journal, forcedUpTo}
 
 -- a copy over as many bytes leaves those of the source
 pub copied : (s d : List ℕ) → length d ≡ length s → take (length s) s ++ drop (length s) d ≡ s
@@ -57,16 +60,13 @@ moved-more g i t h =
     (set-at (take i (drop g t)) (getD t i 0) (drop (suc i) t) x i k ∙ sym (append-snoc (take i (drop g t)) x (drop (suc i) t)))
 
 -- after the last turn, with zeros behind
-pub moved-all : (g k : ℕ) (t : List ℕ) → k + g ≡ length t
-    → take k (moved g k t) ++ (replicate g 0 ++ drop g (drop k (moved g k t))) ≡ drop g t ++ replicate g 0
+pub moved-all : (g k : ℕ) (t : List ℕ) → k + g ≤ length t
+    → take k (moved g k t) ++ (replicate g 0 ++ drop g (drop k (moved g k t))) ≡ take k (drop g t) ++ (replicate g 0 ++ drop (k + g) t)
 moved-all g k t h =
-    let f = front g k t (omega arith) in
-    let d : length (drop g t) ≡ length t - g = length-drop g t in
-    let e : length (drop k t) ≡ length t - k = length-drop k t in
-    rw (
-      take-at (take k (drop g t)) (drop k t) k f,
-      drop-at (take k (drop g t)) (drop k t) k f,
-      take-all k (drop g t) (omega arith),
-      drop-of-length-le (drop k t) {i = g} (omega arith),
-      append-nil {A = ℕ} (replicate g 0),
-    )
+    let f = front g k t h in
+    rw (take-at (take k (drop g t)) (drop k t) k f, drop-at (take k (drop g t)) (drop k t) k f, drop-drop g k t)
+
+-- no row, no write
+pub none-forced : (j : Journal) → forcedUpTo 0 j ≡ j
+unfolding forcedUpTo runs chunks
+none-forced j = rw (sub-zero (j .control .waiting), take-append-drop (16 * j .control .waiting) (j .tail))

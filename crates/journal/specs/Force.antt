@@ -1,5 +1,5 @@
 -- A run of stored writes: rows of the tail go to the end of the log until one is beyond the fuse.
-use Prim.Native.Nat.{ℕ, zero, suc, _+_, _*_, _≤_}
+use Prim.Native.Nat.{ℕ, zero, suc, _+_, _-_, _*_, _≤_}
 use mathlib.Core.Path.{_≡_}
 use mathlib.Core.Bool.{true, false, cond}
 use mathlib.Core.List.{List, [], _∷_, _++_}
@@ -39,9 +39,9 @@ abbrev pub controlAfter : Control → ℕ → Run → Control
 controlAfter c waiting run =
     cond (run .cut) (closedAt (run .stored)) (record { phase = c .phase; fuse = run .fuse; stored = run .stored; waiting = waiting })
 
--- the tail without its first m rows: the rest moves to the front, zeros follow
-abbrev pub shifted : ℕ → List ℕ → List ℕ
-shifted m tail = drop (rowLength * m) tail ++ replicate (rowLength * m) 0
+-- the tail without the first m of its w rows: the others move to the front, zeros follow; what is behind the w rows (in a sound store zeros) stays
+abbrev pub shifted : ℕ → ℕ → List ℕ → List ℕ
+shifted m w tail = take (rowLength * (w - m)) (drop (rowLength * m) tail) ++ (replicate (rowLength * m) 0 ++ drop (rowLength * w) tail)
 
 -- the lengths of 01, and counters within them
 pub record Sizes (c : Control) (log tail : ℕ) : Type 0 where

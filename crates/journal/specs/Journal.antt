@@ -23,15 +23,15 @@ pub record Journal : Type 0 where
 abbrev pub journal : Control → List ℕ → List ℕ → Journal
 journal c log tail = record { control = c; log = log; tail = tail }
 
--- the tail after a run of its first m rows: nothing waits after a cut
-abbrev pub tailAfter : Bool → ℕ → List ℕ → List ℕ
-tailAfter cut m tail = cond cut (replicate (length tail) 0) (shifted m tail)
+-- the tail after a run of the first m of its w rows: nothing waits after a cut
+abbrev pub tailAfter : Bool → ℕ → ℕ → List ℕ → List ℕ
+tailAfter cut m w tail = cond cut (replicate (length tail) 0) (shifted m w tail)
 
 -- the first m waiting rows are stored
 unfoldable pub forcedUpTo : ℕ → Journal → Journal
 forcedUpTo m j =
     let o : Ran = runs (j .control .fuse) (j .control .stored) (j .log) (chunks m (j .tail)) in
-    record { control = controlAfter (j .control) (j .control .waiting - m) (o .run); log = o .log; tail = tailAfter (o .run .cut) m (j .tail) }
+    record { control = controlAfter (j .control) (j .control .waiting - m) (o .run); log = o .log; tail = tailAfter (o .run .cut) m (j .control .waiting) (j .tail) }
 
 -- all of them, and the tail is empty
 unfoldable pub forced : Journal → Journal

@@ -2,7 +2,7 @@
 ghost use mathlib.Core.Path.{_≡_};
 ghost use Prim.Native.Nat.{_+_, _*_, _≤_};
 ghost use lib.ListN.{length};
-ghost use Rattle.book.specs.Limits.{rowLength};
+ghost use Rattle.book.specs.Limits.{rowLength, tailLimit};
 ghost use Rattle.journal.specs.Force.{runs, chunks, controlAfter, shifted, Sizes};
 ghost use Rattle.journal.specs.Journal.{journal, forced, forcedUpTo};
 ghost use Rattle.state.specs.World.{tailLength};
@@ -11,7 +11,6 @@ use crate::fuse::Spent;
 use crate::writes::clear;
 use crate::writes::store_row;
 use rows::limits::ROW_LENGTH;
-use rows::limits::TAIL_LENGTH;
 use state::ram::Fuse;
 use state::ram::Phase;
 
@@ -89,32 +88,36 @@ pub fn force(c: Control, log: &mut [u8], tail: &mut [u8]) -> Control
     control_after(c, 0, run)
 }
 
-// The rows behind the first m move to the front, zeros follow.
-fn shift(tail: &mut [u8], m: usize)
-    requires { ⌜ (rowLength * m ≤ length (now tail)) × (length (now tail) ≡ tailLength) ⌝ }
-    ensures { λ _. ⌜ now (tail .exit) ≡ shifted m (now (tail .entry)) ⌝ }
+// The waiting rows behind the first m move to the front, zeros follow. No byte behind the waiting rows is touched.
+fn shift(tail: &mut [u8], m: usize, waiting: usize)
+    requires { ⌜ (m ≤ waiting) × (waiting ≤ tailLimit) × (length (now tail) ≡ tailLength) ⌝ }
+    ensures { λ _. ⌜ now (tail .exit) ≡ shifted m waiting (now (tail .entry)) ⌝ }
 {
     let gap = ROW_LENGTH * m;
-    let keep = TAIL_LENGTH - gap;
+    let end = ROW_LENGTH * waiting;
+    let keep = end - gap;
     let mut i: usize = 0;
     while i < keep {
         tail[i] = tail[i + gap];
         i += 1;
     }
-    clear(&mut tail[keep..TAIL_LENGTH]);
+    clear(&mut tail[keep..end]);
 }
 
-// The first m waiting rows are stored, the others go on waiting.
+// The first m waiting rows are stored, the others go on waiting. Where there are none to store, the tail is not touched.
 pub fn force_up_to(c: Control, log: &mut [u8], tail: &mut [u8], m: usize) -> Control
     requires { ⌜ Sizes c (length (now log)) (length (now tail)) × (m ≤ c .waiting) ⌝ }
     ensures { λ r. ⌜ journal r (now (log .exit)) (now (tail .exit)) ≡ forcedUpTo m (journal c (now (log .entry)) (now (tail .entry))) ⌝ }
 {
+    if m == 0 {
+        return c;
+    }
     let fuse = c.fuse;
     let run = store_tail(fuse, c.stored, m, log, tail);
     if run.cut {
         clear(tail);
         return control_after(c, 0, run);
     }
-    shift(tail, m);
+    shift(tail, m, c.waiting);
     control_after(c, c.waiting - m, run)
 }

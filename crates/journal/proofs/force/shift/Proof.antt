@@ -1,7 +1,7 @@
 use Prim.Native.Nat.{ℕ, _+_, _*_, _-_, _≤_}
 use native.Mathlib.Omega.{arith}
-use mathlib.Core.Path.{_≡_, refl, ap, _∙_}
-use mathlib.Core.List.{List}
+use mathlib.Core.Path.{_≡_, refl, ap, ap₂, _∙_}
+use mathlib.Core.List.{List, _++_}
 use borrow.Author.Needs.{needs}
 use lib.ListN.{length, take, drop, set, getD, replicate, length-set, length-take, length-drop}
 use Rattle.journal.proofs.Shifts.{moved, moved-more, moved-all}
@@ -9,13 +9,16 @@ use Rattle.journal.proofs.force.shift.Statement.{statement}
 use Rattle.journal.proofs.force.shift.Tie as tie
 
 abbrev Inv-loop : tie.InvT-loop
-Inv-loop tail₀ m gap keep i₀ tail i = (i ≤ keep) × (length tail ≡ length tail₀) × (tail ≡ moved gap i tail₀)
+Inv-loop tail₀ m waiting gap end keep i₀ tail i = (i ≤ keep) × (length tail ≡ length tail₀) × (tail ≡ moved gap i tail₀)
 
 abbrev μ-loop : tie.MeasureT-loop
-μ-loop tail₀ m gap keep i₀ tail i = keep - i
+μ-loop tail₀ m waiting gap end keep i₀ tail i = keep - i
 
 mul-gap : tie.Need-mul-gap Inv-loop μ-loop
 mul-gap c = omega arith
+
+mul-end : tie.Need-mul-end Inv-loop μ-loop
+mul-end c = omega arith
 
 sub-keep : tie.Need-sub-keep Inv-loop μ-loop
 sub-keep c = omega arith
@@ -59,13 +62,15 @@ returns c =
     let l = c .before .before .before .before .before .loop in
     let a = c .before .before .before .before .before .before .before .args in
     let g = 16 * a .m in
-    let k = 1024 - 16 * a .m in
+    let k = 16 * a .waiting - 16 * a .m in
     let last : l .i ≡ k = omega arith in
-    let gap : 1024 - k ≡ g = omega arith in
+    let gap : 16 * a .waiting - k ≡ g = omega arith in
     let is : l .tail ≡ moved g k (a .tail .now) = l .inv .2 ∙ ap (λ (n : ℕ). moved g n (a .tail .now)) last in
-    let part : length (take (1024 - k) (drop k (l .tail))) ≡ g = simp (length-take, length-drop) (omega arith) in
+    let part : length (take (16 * a .waiting - k) (drop k (l .tail))) ≡ g = simp (length-take, length-drop) (omega arith) in
     let zeros : c .before .before .clear .last .0 ≡ replicate g 0 = c .before .before .clear .ensures ∙ ap (λ (n : ℕ). replicate n 0) part in
-    rw (zeros, gap, is) (moved-all g k (a .tail .now) (omega arith))
+    let rest : k ≡ 16 * (a .waiting - a .m) = omega arith in
+    let end : k + g ≡ 16 * a .waiting = omega arith in
+    rw (zeros, gap, is) (moved-all g k (a .tail .now) (omega arith) ∙ ap₂ (λ (x y : ℕ). take x (drop g (a .tail .now)) ++ (replicate g 0 ++ drop y (a .tail .now))) rest end)
 
 pub shift-spec : {M : Type 1} → statement M
 shift-spec =
@@ -74,6 +79,7 @@ shift-spec =
     Inv-loop
     μ-loop
     mul-gap
+    mul-end
     sub-keep
     loop-holds
     add-tail
