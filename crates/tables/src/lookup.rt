@@ -44,10 +44,12 @@ pub fn find_growing(t: &[u16], used: usize, v: Visit, c: Cell) -> Found
     requires { ⌜ Sized (length (now t)) used ⌝ }
     ensures { λ r. ⌜ r ≡ find (grows (v .0) (c .0)) used (entriesOf (now (t .entry))) ⌝ }
 {
-    let mut i: usize = 0;
-    while i < used {
-        if grows_at(t, i, v, c) {
-            return Found::At(i);
+    let end = used as u32;
+    let mut i: u32 = 0;
+    while i < end {
+        let at = i as usize;
+        if grows_at(t, at, v, c) {
+            return Found::At(at);
         }
         i += 1;
     }
@@ -59,9 +61,10 @@ pub fn holds_cell(t: &[u16], used: usize, v: Visit, cs: CellSet) -> bool
     requires { ⌜ Sized (length (now t)) used ⌝ }
     ensures { λ r. ⌜ r ≡ holdsCell used (v .0) (among cs) (entriesOf (now (t .entry))) ⌝ }
 {
-    let mut i: usize = 0;
-    while i < used {
-        let e = entry_at(t, i);
+    let end = used as u32;
+    let mut i: u32 = 0;
+    while i < end {
+        let e = entry_at(t, i as usize);
         if is_held(e, v, cs) {
             return true;
         }
@@ -87,21 +90,23 @@ pub fn highest(t: &[u16], used: usize, w: Whom) -> Found
     requires { ⌜ Sized (length (now t)) used ⌝ }
     ensures { λ r. ⌜ r ≡ highestIn w used (entriesOf (now (t .entry))) ⌝ }
 {
+    let end = used as u32;
     let mut last: u16 = 0;
-    let mut at: usize = 0;
-    let mut i: usize = 0;
-    while i < used {
-        let x = last_by(t, i, w);
+    let mut found: usize = 0;
+    let mut i: u32 = 0;
+    while i < end {
+        let at = i as usize;
+        let x = last_by(t, at, w);
         if last < x {
             last = x;
-            at = i;
+            found = at;
         }
         i += 1;
     }
     if last == 0 {
         return Found::Nothing;
     }
-    Found::At(at)
+    Found::At(found)
 }
 
 // The highest open change of the entry found, 0 for none.
@@ -120,11 +125,12 @@ pub fn open_count(t: &[u16], used: usize) -> usize
     requires { ⌜ Sized (length (now t)) used ⌝ }
     ensures { λ r. ⌜ (r ≡ openCount used (entriesOf (now (t .entry)))) × (r < 4194305) ⌝ }
 {
-    let mut sum: usize = 0;
-    let mut i: usize = 0;
-    while i < used {
-        sum += count_at(t, i) as usize;
+    let end = used as u32;
+    let mut sum: u32 = 0;
+    let mut i: u32 = 0;
+    while i < end {
+        sum += count_at(t, i as usize) as u32;
         i += 1;
     }
-    sum
+    sum as usize
 }

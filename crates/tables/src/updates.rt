@@ -60,9 +60,10 @@ pub fn hand_over(t: &mut [u16], used: usize, g: Visit, r: Visit, cs: CellSet)
     requires { ⌜ Sized (length (now t)) used ⌝ }
     ensures { λ _. ⌜ entriesOf (now (t .exit)) ≡ scopesHanded used (g .0) (r .0) (among cs) (entriesOf (now (t .entry))) ⌝ }
 {
-    let mut i: usize = 0;
-    while i < used {
-        hand_entry(t, i, g, r, cs);
+    let end = used as u32;
+    let mut i: u32 = 0;
+    while i < end {
+        hand_entry(t, i as usize, g, r, cs);
         i += 1;
     }
 }
@@ -77,18 +78,18 @@ pub fn undo_at(t: &mut [u16], i: usize, before: Lsn)
 }
 
 // Entry i is put behind the entries kept so far, unless the visit holds it or it stands there already. Returns the entries then kept.
-fn move_entry(t: &mut [u16], kept: usize, i: usize, v: Visit) -> usize
+fn move_entry(t: &mut [u16], kept: u32, i: u32, v: Visit) -> u32
     requires { ⌜ Moves (length (now t)) kept i ⌝ }
     ensures { λ r. ⌜ scopesIn r (now (t .exit)) ≡ movedAt (v .0) i (scopesIn kept (now (t .entry))) ⌝ }
 {
-    let e = entry_at(t, i);
+    let e = entry_at(t, i as usize);
     if e.holder.0 == v.0 {
         return kept;
     }
     if kept == i {
         return kept + 1;
     }
-    put_entry(t, kept, e);
+    put_entry(t, kept as usize, e);
     kept + 1
 }
 
@@ -97,13 +98,14 @@ fn close_ranks(t: &mut [u16], used: usize, v: Visit) -> usize
     requires { ⌜ Sized (length (now t)) used ⌝ }
     ensures { λ r. ⌜ ClosedRanks used (v .0) (entriesOf (now (t .entry))) (scopesIn r (now (t .exit))) ⌝ }
 {
-    let mut kept: usize = 0;
-    let mut i: usize = 0;
-    while i < used {
+    let end = used as u32;
+    let mut kept: u32 = 0;
+    let mut i: u32 = 0;
+    while i < end {
         kept = move_entry(t, kept, i, v);
         i += 1;
     }
-    kept
+    kept as usize
 }
 
 // Every entry from number k on is unused.

@@ -51,10 +51,10 @@ pub fn is_listed(t: Counts, visits: &[u16], v: Visit) -> bool
     requires { ⌜ Listed (length (now visits)) (t .count) ⌝ }
     ensures { λ r. ⌜ r ≡ isListed (tablesIn t (now (visits .entry))) (v .0) ⌝ }
 {
-    let count = t.count;
-    let mut i: usize = 0;
+    let count = t.count as u32;
+    let mut i: u32 = 0;
     while i < count {
-        let a = active_at(visits, i);
+        let a = active_at(visits, i as usize);
         if is_of(a, v) {
             return true;
         }
@@ -68,11 +68,11 @@ pub fn may_act(t: Counts, visits: &[u16], v: Visit) -> bool
     requires { ⌜ Listed (length (now visits)) (t .count) ⌝ }
     ensures { λ r. ⌜ r ≡ mayAct (tablesIn t (now (visits .entry))) (v .0) ⌝ }
 {
-    let count = t.count;
+    let count = t.count as u32;
     let mut seen = false;
-    let mut i: usize = 0;
+    let mut i: u32 = 0;
     while i < count {
-        let a = active_at(visits, i);
+        let a = active_at(visits, i as usize);
         if is_of(a, v) {
             if a.bears {
                 return false;
@@ -123,24 +123,24 @@ pub fn with_undo(t: Counts, visits: &mut [u16], v: Visit)
     requires { ⌜ Listed (length (now visits)) (t .count) ⌝ }
     ensures { λ _. ⌜ tablesIn t (now (visits .exit)) ≡ withUndo (tablesIn t (now (visits .entry))) (v .0) ⌝ }
 {
-    let count = t.count;
-    let mut i: usize = 0;
+    let count = t.count as u32;
+    let mut i: u32 = 0;
     while i < count {
-        mark_at(visits, i, v);
+        mark_at(visits, i as usize, v);
         i += 1;
     }
 }
 
 // Place i is put behind the places kept so far, unless the visit has it. Returns the places then kept.
-fn move_active(visits: &mut [u16], kept: usize, i: usize, v: Visit) -> usize
+fn move_active(visits: &mut [u16], kept: u32, i: u32, v: Visit) -> u32
     requires { ⌜ Shifts (length (now visits)) kept i ⌝ }
     ensures { λ r. ⌜ placesIn r (now (visits .exit)) ≡ keptAt (v .0) i (placesIn kept (now (visits .entry))) ⌝ }
 {
-    let a = active_at(visits, i);
+    let a = active_at(visits, i as usize);
     if is_of(a, v) {
         return kept;
     }
-    put_active(visits, kept, a);
+    put_active(visits, kept as usize, a);
     kept + 1
 }
 
@@ -149,14 +149,14 @@ fn close_ranks(t: Counts, visits: &mut [u16], v: Visit) -> usize
     requires { ⌜ Listed (length (now visits)) (t .count) ⌝ }
     ensures { λ r. ⌜ Without (tablesIn t (now (visits .entry))) (v .0) (placesIn r (now (visits .exit))) ⌝ }
 {
-    let count = t.count;
-    let mut kept: usize = 0;
-    let mut i: usize = 0;
+    let count = t.count as u32;
+    let mut kept: u32 = 0;
+    let mut i: u32 = 0;
     while i < count {
         kept = move_active(visits, kept, i, v);
         i += 1;
     }
-    kept
+    kept as usize
 }
 
 // Every place from number k on is vacant.

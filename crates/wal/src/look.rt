@@ -66,31 +66,35 @@ fn is_change_by(b: &[u8], maker: Visit, cell: Cell) -> bool
 }
 
 // The highest row of a part below `last` and not below `first` that is a change of the cell by the maker, 0 for none. No other row is looked at: the search,
-// downwards, begins and stops within the part.
+// downwards, begins and stops within the part, and counts in 32 bits, as the loops of `tables` do.
 fn change_before(
     b: &[u8],
     base: usize,
     rows: usize,
-    first: usize,
-    last: usize,
+    first: u16,
+    last: u16,
     maker: Visit,
     cell: Cell,
 ) -> usize
     requires { ⌜ Part (length (now b)) base rows ⌝ }
     ensures { λ r. ⌜ (r ≡ previous (rowOfPart (now (b .entry)) base rows) (maker .0) (cell .0) first last) × (r ≤ last) ⌝ }
 {
-    let lowest = if first <= base { base + 1 } else { first };
-    let mut n = if base + rows < last {
-        base + rows + 1
+    let lowest = if first as usize <= base {
+        (base + 1) as u32
     } else {
-        last
+        first as u32
+    };
+    let mut n = if base + rows < last as usize {
+        (base + rows + 1) as u32
+    } else {
+        last as u32
     };
     while lowest < n {
         n -= 1;
-        let a = ROW_LENGTH * (n - base - 1);
+        let a = ROW_LENGTH * (n as usize - base - 1);
         let e = a + ROW_LENGTH;
         if is_change_by(&b[a..e], maker, cell) {
-            return n;
+            return n as usize;
         }
     }
     0
@@ -103,15 +107,7 @@ pub fn before_last_in(b: &[u8], base: usize, rows: usize, s: Scope) -> usize
 {
     let maker = s.maker;
     let cell = s.cell;
-    change_before(
-        b,
-        base,
-        rows,
-        s.first.0 as usize,
-        s.last.0 as usize,
-        maker,
-        cell,
-    )
+    change_before(b, base, rows, s.first.0, s.last.0, maker, cell)
 }
 
 // The change before the scope's last one, 0 for none: it waits in the tail, or else stands in the log.

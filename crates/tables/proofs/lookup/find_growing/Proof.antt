@@ -14,15 +14,21 @@ use Rattle.tables.proofs.lookup.find_growing.Statement.{statement}
 use Rattle.tables.proofs.lookup.find_growing.Tie as tie
 
 abbrev Inv-loop : tie.InvT-loop
-Inv-loop t used v c i₀ i =
+Inv-loop t used v c end i₀ i =
     let p = grows (v .0) (c .0) in
     (i ≤ used) × (findFrom p 0 (take used (entries t)) ≡ findFrom p i (left used i (entries t)))
 
 abbrev μ-loop : tie.MeasureT-loop
-μ-loop t used v c i₀ i = used - i
+μ-loop t used v c end i₀ i = used - i
+
+cast-end : tie.Need-cast-end Inv-loop μ-loop
+cast-end c = omega (arith, c .before .pre .within)
 
 loop-holds : tie.Need-loop-holds Inv-loop μ-loop
 loop-holds c = (omega arith, refl)
+
+cast-at : tie.Need-cast-at Inv-loop μ-loop
+cast-at c = omega (arith, c .before .before .before .pre .within)
 
 grows-at-requires : tie.Need-grows-at-requires Inv-loop μ-loop
 grows-at-requires c κs = record { long = c .before .before .before .pre .long; below = omega (arith, c .before .before .before .pre .within) }
@@ -65,7 +71,9 @@ find-growing-spec =
     (tie.spec
     Inv-loop
     μ-loop
+    cast-end
     loop-holds
+    cast-at
     grows-at-requires
     returns
     add-i

@@ -14,15 +14,21 @@ use Rattle.tables.proofs.lookup.highest.Statement.{statement}
 use Rattle.tables.proofs.lookup.highest.Tie as tie
 
 abbrev Inv-loop : tie.InvT-loop
-Inv-loop t used w last₀ at₀ i₀ last at i =
+Inv-loop t used w end last₀ found₀ i₀ last found i =
     let ss = entries t in
-    (i ≤ used) × (highestFrom w 0 0 Nothing (take used ss) ≡ highestFrom w i last (foundAt last at) (left used i ss))
+    (i ≤ used) × (highestFrom w 0 0 Nothing (take used ss) ≡ highestFrom w i last (foundAt last found) (left used i ss))
 
 abbrev μ-loop : tie.MeasureT-loop
-μ-loop t used w last₀ at₀ i₀ last at i = used - i
+μ-loop t used w end last₀ found₀ i₀ last found i = used - i
+
+cast-end : tie.Need-cast-end Inv-loop μ-loop
+cast-end c = omega (arith, c .before .pre .within)
 
 loop-holds : tie.Need-loop-holds Inv-loop μ-loop
 loop-holds c = (omega arith, refl)
+
+cast-at : tie.Need-cast-at Inv-loop μ-loop
+cast-at c = omega (arith, c .before .before .before .pre .within)
 
 last-by-requires : tie.Need-last-by-requires Inv-loop μ-loop
 last-by-requires c κs = record { long = c .before .before .before .pre .long; below = omega (arith, c .before .before .before .pre .within) }
@@ -39,7 +45,7 @@ loop-again c =
     let l = c .before .before .before .loop in
     let x = c .before .last-by .result in
     let turn =
-    highest-next (s .args .t .now) (s .args .used) (l .i) (c .before .before .loop-test .taken) (s .pre .within) (s .args .w) (l .last) (foundAt (l .last) (l .at)) x (c .before .last-by .ensures) in (
+    highest-next (s .args .t .now) (s .args .used) (l .i) (c .before .before .loop-test .taken) (s .pre .within) (s .args .w) (l .last) (foundAt (l .last) (l .found)) x (c .before .last-by .ensures) in (
       omega arith,
       l .inv .1 ∙ turn ∙ ⊎-elim
           (λ z. rw (lt-ltb _ _ (z .0 .taken), z .1, z .2, ne-eqb x 0 (λ e. omega arith)))
@@ -65,7 +71,9 @@ highest-spec =
     (tie.spec
     Inv-loop
     μ-loop
+    cast-end
     loop-holds
+    cast-at
     last-by-requires
     add-i
     loop-less

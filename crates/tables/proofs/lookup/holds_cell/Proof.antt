@@ -14,15 +14,21 @@ use Rattle.tables.proofs.lookup.holds_cell.Statement.{statement}
 use Rattle.tables.proofs.lookup.holds_cell.Tie as tie
 
 abbrev Inv-loop : tie.InvT-loop
-Inv-loop t used v cs i₀ i =
+Inv-loop t used v cs end i₀ i =
     let p = isHeld (v .0) (among cs) in
     (i ≤ used) × (any p (take used (entries t)) ≡ any p (left used i (entries t)))
 
 abbrev μ-loop : tie.MeasureT-loop
-μ-loop t used v cs i₀ i = used - i
+μ-loop t used v cs end i₀ i = used - i
+
+cast-end : tie.Need-cast-end Inv-loop μ-loop
+cast-end c = omega (arith, c .before .pre .within)
 
 loop-holds : tie.Need-loop-holds Inv-loop μ-loop
 loop-holds c = (omega arith, refl)
+
+cast-entry-at : tie.Need-cast-entry-at Inv-loop μ-loop
+cast-entry-at c = omega (arith, c .before .before .before .pre .within)
 
 entry-at-requires : tie.Need-entry-at-requires Inv-loop μ-loop
 entry-at-requires c κs = record { long = c .before .before .before .pre .long; below = omega (arith, c .before .before .before .pre .within) }
@@ -68,7 +74,9 @@ holds-cell-spec =
     (tie.spec
     Inv-loop
     μ-loop
+    cast-end
     loop-holds
+    cast-entry-at
     entry-at-requires
     is-held-requires
     returns

@@ -14,14 +14,20 @@ use Rattle.tables.proofs.lookup.open_count.Statement.{statement}
 use Rattle.tables.proofs.lookup.open_count.Tie as tie
 
 abbrev Inv-loop : tie.InvT-loop
-Inv-loop t used sum₀ i₀ sum i =
+Inv-loop t used end sum₀ i₀ sum i =
     (i ≤ used) × (sum ≤ 65535 * i) × (countAll (take used (entries t)) ≡ sum + countAll (left used i (entries t)))
 
 abbrev μ-loop : tie.MeasureT-loop
-μ-loop t used sum₀ i₀ sum i = used - i
+μ-loop t used end sum₀ i₀ sum i = used - i
+
+cast-end : tie.Need-cast-end Inv-loop μ-loop
+cast-end c = omega (arith, c .before .pre .within)
 
 loop-holds : tie.Need-loop-holds Inv-loop μ-loop
 loop-holds c = (omega arith, omega arith, omega arith)
+
+cast-count-at : tie.Need-cast-count-at Inv-loop μ-loop
+cast-count-at c = omega (arith, c .before .before .before .pre .within)
 
 count-at-requires : tie.Need-count-at-requires Inv-loop μ-loop
 count-at-requires c κs = record { long = c .before .before .before .pre .long; below = omega (arith, c .before .before .before .pre .within) }
@@ -44,6 +50,9 @@ loop-again c =
     rw (entries-at (s .args .t .now) (l .i) (omega (arith, s .pre .within))) (c .count-at .ensures) in
     (omega arith, omega (arith, c .count-at .ok), l .inv .2 ∙ omega (arith, e, turn))
 
+cast-result : tie.Need-cast-result Inv-loop μ-loop
+cast-result c = omega (arith, c .before .before .before .pre .within)
+
 returns : tie.Need-returns Inv-loop μ-loop
 unfolding openCount
 returns c =
@@ -58,11 +67,14 @@ open-count-spec =
     (tie.spec
     Inv-loop
     μ-loop
+    cast-end
     loop-holds
+    cast-count-at
     count-at-requires
     (λ c. search needs)
     add-sum
     add-i
     loop-less
     loop-again
+    cast-result
     returns)

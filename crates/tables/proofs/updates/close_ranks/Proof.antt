@@ -13,12 +13,15 @@ use Rattle.tables.proofs.updates.close_ranks.Statement.{statement}
 use Rattle.tables.proofs.updates.close_ranks.Tie as tie
 
 abbrev Inv-loop : tie.InvT-loop
-Inv-loop t₀ used v kept₀ i₀ t kept i =
+Inv-loop t₀ used v end kept₀ i₀ t kept i =
     let p = heldByOther (v .0) in
     (i ≤ used) × (kept ≤ i) × (length t ≡ length t₀) × (ranks p used kept i (entries t) ≡ heldByOthers used (v .0) (entries t₀))
 
 abbrev μ-loop : tie.MeasureT-loop
-μ-loop t₀ used v kept₀ i₀ t kept i = used - i
+μ-loop t₀ used v end kept₀ i₀ t kept i = used - i
+
+cast-end : tie.Need-cast-end Inv-loop μ-loop
+cast-end c = omega (arith, c .before .pre .within)
 
 loop-holds : tie.Need-loop-holds Inv-loop μ-loop
 loop-holds c = (omega arith, omega arith, refl, refl)
@@ -46,6 +49,9 @@ loop-again c =
     let turn : Move v (s .args .used) (l .i) x (scopesIn (m .result) (m .last .0)) = rw (m .ensures) (move v (s .args .used) (l .i) x (l .inv .1) (c .before .before .before .before .loop-test .taken) w) in
     (omega arith, turn .few, m .kept .0 ∙ l .inv .2, turn .left ∙ l .inv .3)
 
+cast-result : tie.Need-cast-result Inv-loop μ-loop
+cast-result c = omega (arith, c .before .before .before .pre .within)
+
 same-length : tie.Need-same-length Inv-loop μ-loop
 same-length c = c .before .loop .inv .2
 
@@ -68,10 +74,12 @@ close-ranks-spec =
     (tie.spec
     Inv-loop
     μ-loop
+    cast-end
     loop-holds
     move-entry-requires
     add-i
     loop-less
     loop-again
+    cast-result
     same-length
     returns)

@@ -12,13 +12,19 @@ use Rattle.tables.proofs.updates.hand_over.Statement.{statement}
 use Rattle.tables.proofs.updates.hand_over.Tie as tie
 
 abbrev Inv-loop : tie.InvT-loop
-Inv-loop t₀ used g r cs i₀ t i = (i ≤ used) × (length t ≡ length t₀) × (entries t ≡ mapped (handedOn (g .0) (r .0) (among cs)) i (entries t₀))
+Inv-loop t₀ used g r cs end i₀ t i = (i ≤ used) × (length t ≡ length t₀) × (entries t ≡ mapped (handedOn (g .0) (r .0) (among cs)) i (entries t₀))
 
 abbrev μ-loop : tie.MeasureT-loop
-μ-loop t₀ used g r cs i₀ t i = used - i
+μ-loop t₀ used g r cs end i₀ t i = used - i
+
+cast-end : tie.Need-cast-end Inv-loop μ-loop
+cast-end c = omega (arith, c .before .pre .within)
 
 loop-holds : tie.Need-loop-holds Inv-loop μ-loop
 loop-holds c = (omega arith, refl, refl)
+
+cast-hand-entry : tie.Need-cast-hand-entry Inv-loop μ-loop
+cast-hand-entry c = omega (arith, c .before .before .before .before .pre .within)
 
 hand-entry-requires : tie.Need-hand-entry-requires Inv-loop μ-loop
 hand-entry-requires c κs =
@@ -59,7 +65,9 @@ hand-over-spec =
     (tie.spec
     Inv-loop
     μ-loop
+    cast-end
     loop-holds
+    cast-hand-entry
     hand-entry-requires
     add-i
     loop-less

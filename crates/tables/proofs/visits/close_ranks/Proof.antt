@@ -21,12 +21,15 @@ Inv-loop visits₀ v count kept₀ i₀ visits kept i =
 abbrev μ-loop : tie.MeasureT-loop
 μ-loop visits₀ v count kept₀ i₀ visits kept i = count - i
 
+cast-count : tie.Need-cast-count Inv-loop μ-loop
+cast-count c = omega (arith, c .before .before .pre .within)
+
 loop-holds : tie.Need-loop-holds Inv-loop μ-loop
 loop-holds c = (omega arith, omega arith, refl, refl)
 
 move-active-requires : tie.Need-move-active-requires Inv-loop μ-loop
 move-active-requires c κs =
-    let s = c .before .before .before .before in
+    let s = c .before .before .before .before .before in
     let l = c .before .before .loop in
     record { long = l .inv .2 ∙ s .pre .long; before = l .inv .1; below = omega (arith, s .pre .within) }
 
@@ -38,7 +41,7 @@ loop-less c = omega arith
 
 loop-again : tie.Need-loop-again Inv-loop μ-loop
 loop-again c =
-    let s = c .before .before .before .before .before .before .before in
+    let s = c .before .before .before .before .before .before .before .before in
     let l = c .before .before .before .before .before .loop in
     let m = c .before .before .move-active in
     let v = s .args .v .0 in
@@ -47,12 +50,15 @@ loop-again c =
     let u : Turn v (s .args .t .count) (l .i) x (placesIn (m .result) (m .last .0)) = rw (m .ensures) (turn v (s .args .t .count) (l .i) x (l .inv .1) (c .before .before .before .before .loop-test .taken) w) in
     (omega arith, u .few, m .kept .0 ∙ l .inv .2, u .left ∙ l .inv .3)
 
+cast-result : tie.Need-cast-result Inv-loop μ-loop
+cast-result c = omega (arith, c .before .before .before .before .pre .within)
+
 same-length : tie.Need-same-length Inv-loop μ-loop
 same-length c = c .before .loop .inv .2
 
 returns : tie.Need-returns Inv-loop μ-loop
 returns c =
-    let s = c .before .before .before in
+    let s = c .before .before .before .before in
     let l = c .before .loop in
     let places = actives (l .visits) in
     let e = sym (ranks-end (stays (s .args .v .0)) (s .args .t .count) (l .kept) (l .i) places (c .loop-test .left)) ∙ l .inv .3 in
@@ -69,10 +75,12 @@ close-ranks-spec =
     (tie.spec
     Inv-loop
     μ-loop
+    cast-count
     loop-holds
     move-active-requires
     add-i
     loop-less
     loop-again
+    cast-result
     same-length
     returns)

@@ -20,24 +20,30 @@ Inv-loop visits v count i₀ i =
 abbrev μ-loop : tie.MeasureT-loop
 μ-loop visits v count i₀ i = count - i
 
+cast-count : tie.Need-cast-count Inv-loop μ-loop
+cast-count c = omega (arith, c .before .before .pre .within)
+
 loop-holds : tie.Need-loop-holds Inv-loop μ-loop
 loop-holds c = (omega arith, refl)
 
+cast-active-at : tie.Need-cast-active-at Inv-loop μ-loop
+cast-active-at c = omega (arith, c .before .before .before .before .pre .within)
+
 active-at-requires : tie.Need-active-at-requires Inv-loop μ-loop
-active-at-requires c κs = record { long = c .before .before .before .pre .long; below = omega (arith, c .before .before .before .pre .within) }
+active-at-requires c κs = record { long = c .before .before .before .before .pre .long; below = omega (arith, c .before .before .before .before .pre .within) }
 
 is-of-requires : tie.Need-is-of-requires Inv-loop μ-loop
 is-of-requires c κs = tt
 
 -- a turn: the place's test, and what is left after it
 turn : (c : tie.After-is-of Inv-loop μ-loop) →
-    let s = c .before .before .before .before .before in
+    let s = c .before .before .before .before .before .before in
     let l = c .before .before .before .loop in
     let p = isOf (s .args .v .0) in
     let places = actives (s .args .visits .now) in
     any p (left (s .args .t .count) (l .i) places) ≡ c .is-of .result || any p (left (s .args .t .count) (l .i + 1) places)
 turn c =
-    let s = c .before .before .before .before .before in
+    let s = c .before .before .before .before .before .before in
     let l = c .before .before .before .loop in
     let n = s .args .t .count in
     let places = actives (s .args .visits .now) in
@@ -68,7 +74,9 @@ is-listed-spec =
     (tie.spec
     Inv-loop
     μ-loop
+    cast-count
     loop-holds
+    cast-active-at
     active-at-requires
     is-of-requires
     returns

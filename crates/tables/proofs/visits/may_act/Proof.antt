@@ -25,37 +25,43 @@ Inv-loop visits v count seen₀ i₀ seen i =
 abbrev μ-loop : tie.MeasureT-loop
 μ-loop visits v count seen₀ i₀ seen i = count - i
 
+cast-count : tie.Need-cast-count Inv-loop μ-loop
+cast-count c = omega (arith, c .before .before .pre .within)
+
 loop-holds : tie.Need-loop-holds Inv-loop μ-loop
 loop-holds c = (omega arith, refl, refl)
 
+cast-active-at : tie.Need-cast-active-at Inv-loop μ-loop
+cast-active-at c = omega (arith, c .before .before .before .before .pre .within)
+
 active-at-requires : tie.Need-active-at-requires Inv-loop μ-loop
-active-at-requires c κs = record { long = c .before .before .before .pre .long; below = omega (arith, c .before .before .before .pre .within) }
+active-at-requires c κs = record { long = c .before .before .before .before .pre .long; below = omega (arith, c .before .before .before .before .pre .within) }
 
 is-of-requires : tie.Need-is-of-requires Inv-loop μ-loop
 is-of-requires c κs = tt
 
 -- a turn: the place's tests, and what is left after it
 module _ (c : tie.After-is-of Inv-loop μ-loop) where
-  next : let s = c .before .before .before .before .before in
+  next : let s = c .before .before .before .before .before .before in
       let l = c .before .before .before .loop in
       let places = actives (s .args .visits .now) in
       left (s .args .t .count) (l .i) places ≡ c .before .active-at .result ∷ left (s .args .t .count) (l .i + 1) places
   next =
-      let s = c .before .before .before .before .before in
+      let s = c .before .before .before .before .before .before in
       let l = c .before .before .before .loop in
       let n = s .args .t .count in
       let places = actives (s .args .visits .now) in
       let w : n ≤ length places = rw actives-length (s .pre .within) in
       left-next n (l .i) places vacant (c .before .before .loop-test .taken) w ∙ rw (← c .before .active-at .ensures)
 
-  listed-turn : let s = c .before .before .before .before .before in
+  listed-turn : let s = c .before .before .before .before .before .before in
       let l = c .before .before .before .loop in
       let p = isOf (s .args .v .0) in
       let places = actives (s .args .visits .now) in
       any p (take (s .args .t .count) places) ≡ l .seen || (c .is-of .result || any p (left (s .args .t .count) (l .i + 1) places))
   listed-turn = c .before .before .before .loop .inv .1 ∙ rw (next, ← c .is-of .ensures)
 
-  bearing-turn : let s = c .before .before .before .before .before in
+  bearing-turn : let s = c .before .before .before .before .before .before in
       let l = c .before .before .before .loop in
       let p = isBearer (s .args .v .0) in
       let places = actives (s .args .visits .now) in
@@ -77,7 +83,7 @@ as-seen false = refl
 returns : tie.Need-returns Inv-loop μ-loop
 unfolding isListed isBearing
 returns c =
-    let a = c .before .before .before .before .before .before .before .args in
+    let a = c .before .before .before .before .before .before .before .before .args in
     let listed = any (isOf (a .v .0)) (take (a .t .count) (actives (a .visits .now))) in
     rw (bearing-turn (c .before .before), c .before .if1 .taken, c .if2 .taken) (borne listed)
 
@@ -108,7 +114,9 @@ may-act-spec =
     (tie.spec
     Inv-loop
     μ-loop
+    cast-count
     loop-holds
+    cast-active-at
     active-at-requires
     is-of-requires
     returns

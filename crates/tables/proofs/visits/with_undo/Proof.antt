@@ -17,12 +17,18 @@ Inv-loop visits₀ v count i₀ visits i = (i ≤ count) × (length visits ≡ l
 abbrev μ-loop : tie.MeasureT-loop
 μ-loop visits₀ v count i₀ visits i = count - i
 
+cast-count : tie.Need-cast-count Inv-loop μ-loop
+cast-count c = omega (arith, c .before .before .pre .within)
+
 loop-holds : tie.Need-loop-holds Inv-loop μ-loop
 loop-holds c = (omega arith, refl, refl)
 
+cast-mark-at : tie.Need-cast-mark-at Inv-loop μ-loop
+cast-mark-at c = omega (arith, c .before .before .before .before .before .pre .within)
+
 mark-at-requires : tie.Need-mark-at-requires Inv-loop μ-loop
 mark-at-requires c κs =
-    let s = c .before .before .before .before in
+    let s = c .before .before .before .before .before in
     let l = c .before .before .loop in
     record { long = l .inv .1 ∙ s .pre .long; below = omega (arith, s .pre .within) }
 
@@ -34,7 +40,7 @@ loop-less c = omega arith
 
 loop-again : tie.Need-loop-again Inv-loop μ-loop
 loop-again c =
-    let s = c .before .before .before .before .before .before .before in
+    let s = c .before .before .before .before .before .before .before .before in
     let l = c .before .before .before .before .before .loop in
     let m = c .before .before .mark-at in
     let places = actives (s .args .visits .now) in
@@ -47,7 +53,7 @@ same-length c = c .before .loop .inv .1
 returns : tie.Need-returns Inv-loop μ-loop
 unfolding withUndo
 returns c =
-    let s = c .before .before .before in
+    let s = c .before .before .before .before in
     let l = c .before .loop in
     let e : l .i ≡ s .args .t .count = omega arith in
     rw (l .inv .2, e)
@@ -58,7 +64,9 @@ with-undo-spec =
     (tie.spec
     Inv-loop
     μ-loop
+    cast-count
     loop-holds
+    cast-mark-at
     mark-at-requires
     add-i
     loop-less

@@ -21,6 +21,9 @@ abbrev μ-loop : tie.MeasureT-loop
 add-lowest : tie.Need-add-lowest Inv-loop μ-loop
 add-lowest c = omega arith
 
+cast-lowest : tie.Need-cast-lowest Inv-loop μ-loop
+cast-lowest c = omega arith
+
 add-if2 : tie.Need-add-if2 Inv-loop μ-loop
 add-if2 c = omega arith
 
@@ -29,6 +32,9 @@ add-n c = omega arith
 
 add-n-2 : tie.Need-add-n-2 Inv-loop μ-loop
 add-n-2 c = omega arith
+
+cast-n : tie.Need-cast-n Inv-loop μ-loop
+cast-n c = omega arith
 
 loop-holds : tie.Need-loop-holds Inv-loop μ-loop
 loop-holds c =
@@ -42,6 +48,9 @@ loop-holds c =
 
 sub-n : tie.Need-sub-n Inv-loop μ-loop
 sub-n c = omega arith
+
+cast-a : tie.Need-cast-a Inv-loop μ-loop
+cast-a c = omega arith
 
 sub-a : tie.Need-sub-a Inv-loop μ-loop
 sub-a c = omega arith
@@ -66,6 +75,9 @@ part-is-change-by-end c = omega arith
 
 is-change-by-requires : tie.Need-is-change-by-requires Inv-loop μ-loop
 is-change-by-requires c κs = omega arith
+
+cast-result : tie.Need-cast-result Inv-loop μ-loop
+cast-result c = omega arith
 
 returns : tie.Need-returns Inv-loop μ-loop
 returns c =
@@ -100,11 +112,14 @@ change-before-spec =
     Inv-loop
     μ-loop
     add-lowest
+    cast-lowest
     add-if2
     add-n
     add-n-2
+    cast-n
     loop-holds
     sub-n
+    cast-a
     sub-a
     sub-a-2
     mul-a
@@ -113,6 +128,7 @@ change-before-spec =
     part-is-change-by-start
     part-is-change-by-end
     is-change-by-requires
+    cast-result
     returns
     loop-less
     loop-again
