@@ -1,6 +1,7 @@
 #!/usr/bin/env bash
 # All tests: the layout of the files, what scripts write, what the papers cite, every proof with the wrong programs and the programs, where each wrong program is refused, the example in C, the
-# comparison with the other implementations, and the workloads of the benchmark, whose results are compared and not measured. The last line is the prover's own count; the exit status is not 0 when anything failed.
+# archive for the unit on a model of its processor (left out, with a line that says so, where a package is missing), the comparison with the other implementations, and the workloads of the
+# benchmark, whose results are compared and not measured. The last line is the prover's own count; the exit status is not 0 when anything failed.
 set -uo pipefail
 cd "$(dirname "$0")" || exit 1
 failed=0
@@ -23,12 +24,13 @@ proved() {
     done
 }
 
-# What links the store. The example writes the archive for C, which the comparison and the benchmark link too; the comparison links the public calls and runs `relog` besides. Once these are
-# proved this runs beside the rest of `rt ci`: the last crates wait for each other and leave a core idle.
+# What links the store. The example writes the archive for C, which the comparison and the benchmark link too, and with which the archive for the unit is compared; the comparison links the public
+# calls and runs `relog` besides. Once these are proved this runs beside the rest of `rt ci`: the last crates wait for each other and leave a core idle.
 linked() {
     local failed=0
     proved embed || return 1
     examples/c/run.sh || failed=1
+    tools/unit/test.sh || [ $? -eq 77 ] || failed=1
     (cd bench && cargo run --release --offline --quiet -- --check) || failed=1
     proved public_calls || return 1
     rt staticlib public_calls || failed=1

@@ -13,7 +13,7 @@
  *
  * What the host sees to
  *
- *   - The pointers are not null, and point to as many bytes as their types and the lengths say.
+ *   - The pointers are not null, are aligned as their types ask, and point to as many bytes as their types and the lengths say.
  *   - RAM, log, charts, the cells of a format and a page lent alone do not overlap.
  *   - Two calls on the same store do not run at the same time, not even in an interrupt.
  *   - Between two calls it leaves RAM, log and charts alone. If it does not, each call still ends with an answer, but the charts may be wrong.
@@ -31,7 +31,8 @@
  *
  *   Each row and each page is stored whole or not at all, and in the order in which the call writes them.
  *
- * The library writes them by plain stores to the lent addresses, with no barrier; docs/FORMAT.md says which stores the archive makes of a row and of a page.
+ * The library writes them by plain stores to the lent addresses, with no barrier. That the stores come in this order is checked of both archives, and not
+ * proved. docs/FORMAT.md says which stores they make of a row and of a page, and which kinds of memory fit: flash, EEPROM and parts behind a driver do not.
  * So the host provides:
  *
  *   - memory-mapped FRAM or MRAM whose bus writes go straight to the cells, the log at a multiple of 16 and the charts at a multiple of 32 bytes;
@@ -46,9 +47,10 @@
  *
  * Which processor
  *
- * The archive libembed.a is for x86-64 Linux, the only target of the toolchain. The proofs are about the source, on a machine whose usize has 64 bits: for the
- * processor of a 32-bit unit the source has to be compiled by a back end for it, and the lengths below, which are uint64_t, are then those of that back end.
- * The calls use the stack only. How much of it, and of RAM, was measured on x86-64, and is not proved (folder `bench`).
+ * The archive libembed.a is for x86-64 Linux, the only target of the toolchain. The proofs are about the source, on a machine whose usize has 64 bits, and the
+ * lengths below are 64-bit numbers (uint64_t) on every machine. For a Cortex-M0 (ARMv6-M) tools/unit makes another archive from the same module: it is outside
+ * the proof, and was tried on a model of the processor. The calls use the stack only. How much of it was measured, on x86-64 (folder `bench`) and on the model
+ * (folder `tools/unit`), and is not proved.
  *
  * The log is not emptied: it takes 4,096 rows, and each visit takes two of them at least. When CHART_NO_ROOM comes, the host ends all visits, reads the cells
  * and formats the store with them; during the format the power must hold.
