@@ -45,7 +45,16 @@ pub fn store_row(f: Fuse, k: usize, log: &mut [u8], row: &[u8]) -> Spent
     s
 }
 
-// The page's bytes become page p of the charts, also if they do not change. The half with the mark is written last.
+// A page's 32 stored bytes are replaced. The half with the mark is written last.
+fn put_page(stored: &mut [u8], page: &[u8])
+    requires { ⌜ (length (now stored) ≡ pageLength) × (length (now page) ≡ pageLength) ⌝ }
+    ensures { λ _. ⌜ now (stored .exit) ≡ now (page .entry) ⌝ }
+{
+    put_sixteen(stored, 16, &page[16..PAGE_LENGTH]);
+    put_sixteen(stored, 0, &page[0..16]);
+}
+
+// The page's bytes become page p of the charts, also if they do not change.
 pub fn store_page(f: Fuse, p: usize, charts: &mut [u8], page: &[u8]) -> Spent
     requires { ⌜ (pageLength * p + pageLength ≤ length (now charts)) × (length (now page) ≡ pageLength) ⌝ }
     ensures { λ r. ⌜ (r ≡ spendOf f) × (now (charts .exit) ≡ ifLands (spendOf f) (putPage (now (charts .entry)) p (now (page .entry))) (now (charts .entry))) ⌝ }
@@ -54,8 +63,8 @@ pub fn store_page(f: Fuse, p: usize, charts: &mut [u8], page: &[u8]) -> Spent
     match s {
         Spent::Lands(_) => {
             let at = PAGE_LENGTH * p;
-            put_sixteen(charts, at + 16, &page[16..PAGE_LENGTH]);
-            put_sixteen(charts, at, &page[0..16]);
+            let end = at + PAGE_LENGTH;
+            put_page(&mut charts[at..end], page);
         }
         Spent::Beyond => {}
     }
