@@ -1,6 +1,6 @@
 -- Two books side by side (`Matching`): the same fuse, both open or both closed, and as many rows stored and waiting, which row by row move the same cells and
 -- leave the same open changes. Stored writes and added rows keep them so.
-use Prim.Native.Nat.{ℕ, zero, suc}
+use Prim.Native.Nat.{ℕ, zero, suc, _+_, _*_}
 use mathlib.Core.Bool.{Bool, true, false, cond}
 use mathlib.Core.Path.{_≡_, refl, ap, ap₂, sym, _∙_, subst}
 use mathlib.Core.List.{List, [], _∷_, _++_, map, append-assoc, append-nil}
@@ -8,15 +8,17 @@ use lib.ListN.{length}
 use lib.IntN.{ℤ, _+ℤ_}
 use lib.Dec.{leb}
 use Rattle.book.specs.Lists.{times, total}
-use Rattle.book.specs.Limits.{tailLimit}
+use Rattle.book.specs.Limits.{places, tailLimit}
 use Rattle.book.specs.Rows.{Row}
 use Rattle.book.specs.Ledger.{Ledger, empty, after, ledger}
 use Rattle.book.specs.Cells.{moved, movedBy, applied, touches, lastOn}
+use Rattle.book.specs.Pages.{pageBytes, pageAfter}
 use Rattle.book.specs.Calls.{Ending, waits, forces, flushes}
 use Rattle.book.specs.Power.{Book, Fuse, none, left, rowsOf, ledgerOf, land, storeFirst, storeRow, force, storePage, append, add, addAll}
 use Rattle.book.specs.Book.{finish}
 use Rattle.book.proofs.Lists.{clash}
 use Rattle.book.proofs.Logs.{ledger-append}
+use Rattle.book.proofs.Pages.{page-same}
 use Rattle.book.proofs.Steps.{Shut, bookOf, extends-force, extends-add}
 use Rattle.book.proofs.SameOpen.{SameOpen, SameRows, end, next, first-open, last-open, rows-join}
 
@@ -58,6 +60,13 @@ matching-cells cells b b′ t c = ap (λ (z : ℤ). cells c +ℤ z) (same-moved 
 
 pub stored-cells : (cells : ℕ → ℤ) (b b′ : Book) → Matching b b′ → (c : ℕ) → applied cells (b′ .stored) c ≡ applied cells (b .stored) c
 stored-cells cells b b′ t c = ap (λ (z : ℤ). cells c +ℤ z) (same-moved c (t .stored))
+
+-- the pages, byte for byte
+pub matching-pages : (cells : ℕ → ℤ) (b b′ : Book) → Matching b b′ → (p : ℕ)
+    → pageBytes (pageAfter cells (rowsOf b′) p) ≡ pageBytes (pageAfter cells (rowsOf b) p)
+unfolding pageAfter
+matching-pages cells b b′ t p =
+    page-same _ _ (record { mark = same-last p (matching-rows b b′ t); cells = λ j h. matching-cells cells b b′ t (places * p + j) })
 
 -- what an opening finds
 pub matching-open : (b b′ : Book) → Matching b b′ → SameOpen (ledger (b .stored)) (ledger (b′ .stored))

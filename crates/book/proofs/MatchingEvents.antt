@@ -200,12 +200,12 @@ module _ (b b′ : Book) (s : Sound b) (s′ : Sound b′) (t : Matching b b′)
 -- ── Openings and calls in a row ───────────────────────────────────────────────────────────────────────────────────────
 
 module _ (cells : ℕ → ℤ) where
-  same-event : (b b′ : Book) → Sound b → Sound b′ → Alongside b b′ → (e : Event) → TypedEvent e → Same (happens cells b e) (happens cells b′ e)
+  pub same-event : (b b′ : Book) → Sound b → Sound b′ → Alongside b b′ → (e : Event) → TypedEvent e → Same (happens cells b e) (happens cells b′ e)
   same-event b b′ s s′ a (opens lengths f) t = same-opening b b′ s s′ (a .matching) a lengths f
   same-event b b′ s s′ a (calls lengths k) t = same-call b b′ s s′ a cells lengths k t
 
   -- what it counts
-  same-writes : (b b′ : Book) → Alongside b b′ → (e : Event) → Same (happens cells b e) (happens cells b′ e) → eventWrites cells b′ e ≡ eventWrites cells b e
+  pub same-writes : (b b′ : Book) → Alongside b b′ → (e : Event) → Same (happens cells b e) (happens cells b′ e) → eventWrites cells b′ e ≡ eventWrites cells b e
   same-writes b b′ a (opens lengths f) r = rw (matching-stored _ _ (r .book .matching), matching-stored b b′ (a .matching))
   same-writes b b′ a (calls lengths k) r = rw (matching-stored _ _ (r .book .matching), matching-stored b b′ (a .matching), r .answer)
 

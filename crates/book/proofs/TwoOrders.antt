@@ -4,6 +4,7 @@ use Prim.Native.Nat.{ℕ, suc}
 use native.Mathlib.Omega.{arith}
 use mathlib.Core.Path.{_≡_, refl}
 use mathlib.Core.Bool.{true}
+use mathlib.Core.Logic.{inl, inr}
 use mathlib.Core.List.{List, [], _∷_, _++_, map}
 use lib.ListN.{replicate}
 use lib.IntN.{ℤ, pos, negsuc}
@@ -34,7 +35,7 @@ threeVisits f = opens true f ∷ map (calls true) (Call.begin ∷ Call.begin ∷
 -- order follows (Swapped), and is seen in the answers below.
 pub accepted-in-order : (cells : ℕ → ℤ) (n : ℕ) → BothAccepted cells (bookAfter cells formatted (threeVisits (left (suc (suc (suc n)))))) ofCell0 ofCell7
 unfolding computes
-accepted-in-order cells n = record { apart = λ e. omega arith; first = refl; second = refl }
+accepted-in-order cells n = record { apart = λ e. omega arith; first = refl; second = inl refl }
 
 -- the answers of what comes before
 abbrev soFar : List Answer
@@ -112,11 +113,11 @@ unfolding computes
 log-of-cell-7-first = refl
 
 -- 63 rows wait before the two, so that the one that comes second stores a full tail, the other with it, and waits alone
-abbrev manyBefore : List Event
-manyBefore = threeVisits none ++ replicate 61 (calls true (Call.change 1 0 (pos 1)))
+abbrev manyBefore : Fuse → List Event
+manyBefore f = threeVisits f ++ replicate 61 (calls true (Call.change 1 0 (pos 1)))
 
-pub later-one-waits : (bookAfter zeros formatted (manyBefore ++ oneThenOther ofCell0 ofCell7 []) .waiting ≡ Row.handOver 2 1 7 ∷ []) ×
-    (bookAfter zeros formatted (manyBefore ++ oneThenOther ofCell7 ofCell0 []) .waiting ≡ Row.handOver 1 3 0 ∷ [])
+pub later-one-waits : (bookAfter zeros formatted (manyBefore none ++ oneThenOther ofCell0 ofCell7 []) .waiting ≡ Row.handOver 2 1 7 ∷ []) ×
+    (bookAfter zeros formatted (manyBefore none ++ oneThenOther ofCell7 ofCell0 []) .waiting ≡ Row.handOver 1 3 0 ∷ [])
 unfolding computes
 later-one-waits = (refl, refl)
 
@@ -128,8 +129,8 @@ openedAtOnce = opens true none ∷ map (calls true) (Call.read 0 ∷ Call.read 7
 abbrev oneKeptAnswers : List Answer
 oneKeptAnswers = done (pos 67) ∷ done (pos 68) ∷ done (pos 66) ∷ done (pos 0) ∷ done (pos 0) ∷ []
 
-pub one-kept-by-opening : (answers zeros (bookAfter zeros formatted manyBefore) (oneThenOther ofCell0 ofCell7 openedAtOnce) ≡ oneKeptAnswers) ×
-    (answers zeros (bookAfter zeros formatted manyBefore) (oneThenOther ofCell7 ofCell0 openedAtOnce) ≡ oneKeptAnswers)
+pub one-kept-by-opening : (answers zeros (bookAfter zeros formatted (manyBefore none)) (oneThenOther ofCell0 ofCell7 openedAtOnce) ≡ oneKeptAnswers) ×
+    (answers zeros (bookAfter zeros formatted (manyBefore none)) (oneThenOther ofCell7 ofCell0 openedAtOnce) ≡ oneKeptAnswers)
 unfolding computes
 one-kept-by-opening = (refl, refl)
 
@@ -141,6 +142,20 @@ pub none-kept : InBoth (left 5) forced
     done (pos 5) ∷ done (pos 0) ∷ done (pos 0) ∷ done (pos 4) ∷ done (pos 12) ∷ done (pos 13) ∷ done (pos 5) ∷ [])
 unfolding computes
 none-kept = (refl, refl)
+
+-- the power fails in the second of them, which finds a full tail: after the begin rows 63 writes land, and the row of the first would have been the next
+pub cut-in-second : BothAccepted zeros (bookAfter zeros formatted (manyBefore (left 66))) ofCell0 ofCell7
+unfolding computes
+cut-in-second = record { apart = λ e. omega arith; first = refl; second = inr refl }
+
+-- the opening finds the 63 changes and the three visits, in either order
+pub cut-in-second-answers :
+    (answers zeros (bookAfter zeros formatted (manyBefore (left 66))) (oneThenOther ofCell0 ofCell7 openedAtOnce) ≡
+    done (pos 67) ∷ refusedBy 5 ∷ done (pos 66) ∷ done (pos 0) ∷ done (pos 0) ∷ []) ×
+    (answers zeros (bookAfter zeros formatted (manyBefore (left 66))) (oneThenOther ofCell7 ofCell0 openedAtOnce) ≡
+    done (pos 67) ∷ refusedBy 5 ∷ done (pos 66) ∷ done (pos 0) ∷ done (pos 0) ∷ [])
+unfolding computes
+cut-in-second-answers = (refl, refl)
 
 -- an opening at once: the two rows, which wait, are lost with the changes
 pub none-kept-by-opening : InBoth none openedAtOnce (done (pos 6) ∷ done (pos 7) ∷ done (pos 3) ∷ done (pos 0) ∷ done (pos 0) ∷ [])

@@ -3,7 +3,7 @@
 use Prim.Native.Nat.{ℕ}
 use mathlib.Core.Bool.{true}
 use mathlib.Core.Path.{_≡_}
-use mathlib.Core.Logic.{_≢_}
+use mathlib.Core.Logic.{_≢_, _⊎_}
 use mathlib.Core.List.{List, _∷_}
 use lib.IntN.{ℤ}
 use Rattle.book.specs.Cells.{keptSum}
@@ -26,12 +26,16 @@ callFor h = Call.handOver (h .giver) (h .receiver) (h .cell)
 abbrev pub eventFor : Single → Event
 eventFor h = calls true (callFor h)
 
--- 02: "two single hand-overs (kind 3) of different cells that follow one another and are both accepted": answered 0, which is more than that no check refuses
--- them, since a full tail that the call stores first may meet a power failure
+-- the number of a call of an open book that no check refuses
+abbrev pub DoneOrCut : ℕ → Type 0
+DoneOrCut n = (n ≡ 0) ⊎ (n ≡ 5)
+
+-- 02: "two single hand-overs (kind 3) of different cells that follow one another and are both accepted": no check refuses them. The first is answered 0, since a
+-- power failure in it would close the book, and the second be refused. The second is answered 0, or 5 where the power fails while it stores a full tail.
 pub record BothAccepted (cells : ℕ → ℤ) (b : Book) (h k : Single) : Type 0 where
   pub apart : h .cell ≢ k .cell
   pub first : happens cells b (eventFor h) .answer .number ≡ 0
-  pub second : happens cells (happens cells b (eventFor h) .book) (eventFor k) .answer .number ≡ 0
+  pub second : DoneOrCut (happens cells (happens cells b (eventFor h) .book) (eventFor k) .answer .number)
 
 -- the one, then the other, then what comes later
 abbrev pub oneThenOther : Single → Single → List Event → List Event
@@ -48,3 +52,6 @@ pub record EitherOrder (cells : ℕ → ℤ) (b : Book) (h k : Single) (es : Lis
   pub sums : (f : Fuse) → opening (bookAfter cells b (oneThenOther h k es)) true f .answer .number ≡ 0 → (c : ℕ) →
       keptSum cells (opening (bookAfter cells b (oneThenOther k h es)) true f .book .stored) c ≡
       keptSum cells (opening (bookAfter cells b (oneThenOther h k es)) true f .book .stored) c
+  -- where the power fails in the second of them neither row is kept, and the books are one
+  pub cut : happens cells (happens cells b (eventFor h) .book) (eventFor k) .answer .number ≡ 5 →
+      bookAfter cells b (oneThenOther k h es) ≡ bookAfter cells b (oneThenOther h k es)

@@ -10,6 +10,7 @@ pub mod Demand2
 pub mod Demand3
 pub mod EveryList
 pub mod Places
+pub mod ChartsAlong
 pub mod Swapped
 pub mod Freedom
 pub mod Made

@@ -16,7 +16,7 @@ use Rattle.book.specs.SessionWrites.{eventWrites, writes}
 use Rattle.book.specs.Swapped.{Single, oneThenOther}
 use Rattle.book.proofs.Sound.{TypedEvents}
 use Rattle.state.specs.World.{World}
-use Rattle.sessions.specs.Host.{Step, opened, called, answerOf, eventOf, Host}
+use Rattle.sessions.specs.Host.{Step, opened, called, answerOf, writesOf, eventOf, Host}
 use Rattle.sessions.specs.Swapped.{TwoHandOvers}
 use Rattle.sessions.proofs.Along.{typed}
 
@@ -53,6 +53,36 @@ module _ {A : Type 0} where
       go (isSecond p) = isSecond p
       go (inLater zs ws p r) = inLater zs ws (ap₂ _∷_ (sym (head-eq-of-cons-eq q)) p) r
 
+  -- the first parts, of one length, of two such lists, the one with the two in the other order
+  pub data FirstParts (before : List A) (a b : A) (later xs xs′ : List A) : Type 0 where
+    same : xs′ ≡ xs → FirstParts before a b later xs xs′
+    between : xs ≡ before ++ (a ∷ []) → xs′ ≡ before ++ (b ∷ []) → FirstParts before a b later xs xs′
+    behind : (zs ws : List A) → later ≡ zs ++ ws → xs ≡ before ++ (a ∷ b ∷ zs) → xs′ ≡ before ++ (b ∷ a ∷ zs) → FirstParts before a b later xs xs′
+
+  pub first-parts : (before : List A) (a b : A) (later xs ys xs′ ys′ : List A) → length xs′ ≡ length xs → before ++ (a ∷ b ∷ later) ≡ xs ++ ys
+      → before ++ (b ∷ a ∷ later) ≡ xs′ ++ ys′
+      → FirstParts before a b later xs xs′
+  first-parts before a b later [] ys [] ys′ n p q = same refl
+  first-parts before a b later [] ys (x′ ∷ xs′) ys′ n p q = absurd (omega arith)
+  first-parts before a b later (x ∷ xs) ys [] ys′ n p q = absurd (omega arith)
+  first-parts [] a b later (x ∷ []) ys (x′ ∷ []) ys′ n p q =
+      between (ap (λ (z : A). z ∷ []) (sym (head-eq-of-cons-eq p))) (ap (λ (z : A). z ∷ []) (sym (head-eq-of-cons-eq q)))
+  first-parts [] a b later (x ∷ []) ys (x′ ∷ y′ ∷ xs′) ys′ n p q = absurd (omega arith)
+  first-parts [] a b later (x ∷ y ∷ xs) ys (x′ ∷ []) ys′ n p q = absurd (omega arith)
+  first-parts [] a b later (x ∷ y ∷ xs) ys (x′ ∷ y′ ∷ xs′) ys′ n p q =
+      let u = tail-eq-of-cons-eq p in
+      let v = tail-eq-of-cons-eq q in
+      let r = parts xs ys xs′ ys′ (omega arith) (sym (tail-eq-of-cons-eq u) ∙ tail-eq-of-cons-eq v) in
+      behind xs ys (tail-eq-of-cons-eq u) (ap₂ (λ (w z : A). w ∷ z ∷ xs) (sym (head-eq-of-cons-eq p)) (sym (head-eq-of-cons-eq u)))
+      (ap₂ (λ (w z : A). w ∷ z ∷ xs′) (sym (head-eq-of-cons-eq q)) (sym (head-eq-of-cons-eq v)) ∙ ap (λ (l : List A). b ∷ a ∷ l) (sym (r .0)))
+  first-parts (z ∷ before) a b later (x ∷ xs) ys (x′ ∷ xs′) ys′ n p q =
+      go (first-parts before a b later xs ys xs′ ys′ (omega arith) (tail-eq-of-cons-eq p) (tail-eq-of-cons-eq q))
+    where
+      go : FirstParts before a b later xs xs′ → FirstParts (z ∷ before) a b later (x ∷ xs) (x′ ∷ xs′)
+      go (same e) = same (ap₂ _∷_ (sym (head-eq-of-cons-eq q) ∙ head-eq-of-cons-eq p) e)
+      go (between e e′) = between (ap₂ _∷_ (sym (head-eq-of-cons-eq p)) e) (ap₂ _∷_ (sym (head-eq-of-cons-eq q)) e′)
+      go (behind us vs l e e′) = behind us vs l (ap₂ _∷_ (sym (head-eq-of-cons-eq p)) e) (ap₂ _∷_ (sym (head-eq-of-cons-eq q)) e′)
+
 -- ── The book along a list ─────────────────────────────────────────────────────────────────────────────────────────────
 
 module _ (cells : ℕ → ℤ) where
@@ -72,6 +102,12 @@ module _ (cells : ℕ → ℤ) where
       → answerOf s ≡ happens cells (bookAfter cells b (map eventOf xs)) (eventOf s) .answer
   answer-at [] ys s b e = head-eq-of-cons-eq e
   answer-at (x ∷ xs) ys s b e = answer-at xs ys s (happens cells b (eventOf x) .book) (tail-eq-of-cons-eq e)
+
+  -- and so its counts
+  pub writes-at : (xs ys : List Step) (s : Step) (b : Book) → map writesOf (xs ++ (s ∷ ys)) ≡ writes cells b (map eventOf (xs ++ (s ∷ ys)))
+      → writesOf s ≡ eventWrites cells (bookAfter cells b (map eventOf xs)) (eventOf s)
+  writes-at [] ys s b e = head-eq-of-cons-eq e
+  writes-at (x ∷ xs) ys s b e = writes-at xs ys s (happens cells b (eventOf x) .book) (tail-eq-of-cons-eq e)
 
   -- and the answers of two steps that follow one another
   pub answers-of-two : (xs ys : List Step) (s t : Step) (b : Book)

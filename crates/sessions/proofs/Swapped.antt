@@ -4,7 +4,7 @@ use native.Mathlib.Omega.{arith}
 use mathlib.Core.Bool.{Bool, true}
 use mathlib.Core.Path.{_≡_, ap, ap₂, sym, _∙_, subst}
 use mathlib.Core.Logic.{_≢_}
-use mathlib.Core.List.{List, [], _∷_, _++_, map, map-append, append-assoc, head-eq-of-cons-eq}
+use mathlib.Core.List.{List, [], _∷_, _++_, map, map-append, append-assoc, head-eq-of-cons-eq, tail-eq-of-cons-eq}
 use lib.ListN.{length, length-append, length-map}
 use lib.IntN.{ℤ}
 use Rattle.book.specs.Limits.{cellLimit}
@@ -14,17 +14,20 @@ use Rattle.book.specs.Power.{Book, Fuse, formatted}
 use Rattle.book.specs.Book.{Answer, Outcome, opening}
 use Rattle.book.specs.Events.{Event, happens, answers, bookAfter}
 use Rattle.book.specs.SessionWrites.{writes}
-use Rattle.book.specs.Swapped.{Single, eventFor, BothAccepted, oneThenOther, EitherOrder}
+use Rattle.book.specs.LogBytes.{logBytes}
+use Rattle.book.specs.Logs.{Sound}
+use Rattle.book.specs.Swapped.{Single, eventFor, DoneOrCut, BothAccepted, oneThenOther, EitherOrder}
 use Rattle.book.proofs.Sound.{TypedEvents, sound-formatted, sound-events}
-use Rattle.book.proofs.Swapped.{either-order}
+use Rattle.book.proofs.Swapped.{beside, stored-between, either-order}
 use Rattle.state.specs.World.{World, rightLengths}
 use Rattle.state.specs.Contracts.{cellsOf}
 use Rattle.sessions.specs.Host.{Opening, Step, opened, called, steps, answerOf, writesOf, eventOf, worldAfterAll}
 use Rattle.sessions.specs.Demand3.{Holds, Demand3}
 use Rattle.sessions.specs.Swapped.{TwoHandOvers, Accepted, SameResults, Swapped}
 use Rattle.sessions.proofs.Along.{book-then, book-append}
+use Rattle.sessions.proofs.ChartsAlong.{chartsAlong, along-then, same-charts, charts-along}
 use Rattle.sessions.proofs.Demand3.{demand-3}
-use Rattle.sessions.proofs.Places.{parts, Place, inBefore, isFirst, isSecond, inLater, place, answers-then, writes-then, answer-at, answers-of-two, answers-at, events-of-two, two-hand-overs, typed-parts, steps-typed}
+use Rattle.sessions.proofs.Places.{parts, Place, inBefore, isFirst, isSecond, inLater, place, FirstParts, same, between, behind, first-parts, answers-then, writes-then, answer-at, answers-of-two, answers-at, events-of-two, two-hand-overs, typed-parts, steps-typed}
 use Rattle.sessions.proofs.ReadyOpenings.{ready-lengths}
 
 -- ── A ready opening of one list ───────────────────────────────────────────────────────────────────────────────────────
@@ -68,13 +71,13 @@ module _ (cells : ℕ → ℤ) (before : List Event) (h k : Single) (later : Lis
       (ap (λ (x : Answer). x .number) (r .0 ∙ ap (λ (o : Outcome). o .answer) one), ap (λ (x : Answer). x .number) (r .1 ∙ ap (λ (o : Outcome). o .answer) two))
 
   -- accepted in the sessions is accepted by the book
-  book-accepts : h .cell ≢ k .cell → w .c .result .answer .number ≡ 0 → w .d .result .answer .number ≡ 0 → BothAccepted cells bookBefore h k
-  book-accepts ne p q = record { apart = ne; first = sym (numbers-of-two .0) ∙ p; second = sym (numbers-of-two .1) ∙ q }
+  book-accepts : h .cell ≢ k .cell → w .c .result .answer .number ≡ 0 → DoneOrCut (w .d .result .answer .number) → BothAccepted cells bookBefore h k
+  book-accepts ne p q = record { apart = ne; first = sym (numbers-of-two .0) ∙ p; second = subst DoneOrCut (numbers-of-two .1) q }
 
   -- and the other way round
   pub accepted-by-book : BothAccepted cells bookBefore h k → Accepted before h k later ss
   accepted-by-book p =
-      record { two = w; apart = p .apart; first = numbers-of-two .0 ∙ p .first; second = numbers-of-two .1 ∙ p .second }
+      record { two = w; apart = p .apart; first = numbers-of-two .0 ∙ p .first; second = subst DoneOrCut (sym (numbers-of-two .1)) (p .second) }
 
 -- ── Two lists ─────────────────────────────────────────────────────────────────────────────────────────────────────────
 
@@ -97,8 +100,11 @@ module _ (cells : ℕ → ℤ) (own : World) (before : List Event) (h k : Single
   both : BothAccepted cells b h k
   both = book-accepts cells before h k later ss (a .two) (holds .answers) (a .apart) (a .first) (a .second)
 
+  sound : Sound b
+  sound = sound-events cells formatted before sound-formatted (typed-before .0)
+
   either : (es : List Event) → TypedEvents es → EitherOrder cells b h k es
-  either es typed-es = either-order cells b h k es (sound-events cells formatted before sound-formatted (typed-before .0)) typed-es both
+  either es typed-es = either-order cells b h k es sound typed-es both
 
   same-answers : map answerOf ss′ ≡ map answerOf ss
   same-answers =
@@ -170,8 +176,61 @@ module _ (cells : ℕ → ℤ) (own : World) (before : List Event) (h k : Single
       cell-there cells own ss′ holds′ xs′ ys′ o′ e′ (zero″ xs ys xs′ ys′ o o′ e e′ n zero′) c lt ∙ same-sum xs ys xs′ ys′ o o′ e e′ n zero′ c where′ ∙
       sym (cell-there cells own ss holds xs ys o e zero′ c lt)
 
+  -- the stored charts, and the log where the power fails in the second, after as many steps of both lists
+  module _ (xs ys xs′ ys′ : List Step) (e : ss ≡ xs ++ ys) (e′ : ss′ ≡ xs′ ++ ys′) (n : length xs′ ≡ length xs) where
+    so-far : FirstParts before (eventFor h) (eventFor k) later (map eventOf xs) (map eventOf xs′)
+    so-far = first-parts before (eventFor h) (eventFor k) later (map eventOf xs) (map eventOf ys) (map eventOf xs′) (map eventOf ys′)
+        (length-map xs′ eventOf ∙ n ∙ sym (length-map xs eventOf))
+        (sym events ∙ ap (map eventOf) e ∙ map-append eventOf xs ys) (sym other ∙ ap (map eventOf) e′ ∙ map-append eventOf xs′ ys′)
+
+    charts-so-far : worldAfterAll own xs′ .charts ≡ worldAfterAll own xs .charts
+    charts-so-far = charts-along cells own ss′ holds′ xs′ ys′ e′ ∙ go so-far ∙ sym (charts-along cells own ss holds xs ys e)
+      where
+        -- before the two of them
+        old : List ℕ
+        old = chartsAlong cells formatted before (own .charts)
+
+        then : (es : List Event) → chartsAlong cells formatted (before ++ es) (own .charts) ≡ chartsAlong cells b es old
+        then es = along-then cells formatted before es (own .charts)
+
+        go : FirstParts before (eventFor h) (eventFor k) later (map eventOf xs) (map eventOf xs′)
+            → chartsAlong cells formatted (map eventOf xs′) (own .charts) ≡ chartsAlong cells formatted (map eventOf xs) (own .charts)
+        go (same p) = ap (λ (es : List Event). chartsAlong cells formatted es (own .charts)) p
+        go (between p q) = rw (p, q) (then (eventFor k ∷ []) ∙ sym (then (eventFor h ∷ [])))
+        go (behind zs ws l p q) =
+            let typed-zs = typed-parts zs ws (subst TypedEvents l (typed-before .1)) .0 in
+            let two = beside cells b h k sound both in
+            rw (p, q) (then (oneThenOther k h zs) ∙
+            same-charts cells zs _ _ old (two .sound) (two .sound′) (two .alongside) typed-zs ∙ sym (then (oneThenOther h k zs)))
+
+    log-so-far : swapped-accepted .two .d .result .answer .number ≡ 5 → worldAfterAll own xs′ .log ≡ worldAfterAll own xs .log
+    log-so-far five = holds′ .log xs′ ys′ e′ ∙ ap logBytes (go so-far) ∙ sym (holds .log xs ys e)
+      where
+        cut : happens cells (happens cells b (eventFor h) .book) (eventFor k) .answer .number ≡ 5
+        cut =
+            ap (λ (x : Answer). x .number) (sym (head-eq-of-cons-eq (tail-eq-of-cons-eq (either later (typed-before .1) .answers)))) ∙
+            sym (numbers-of-two cells before k h later ss′ (swapped-accepted .two) (holds′ .answers) .1) ∙ five
+
+        then : (es : List Event) → bookAfter cells formatted (before ++ es) ≡ bookAfter cells b es
+        then es = book-then cells formatted before es
+
+        go : FirstParts before (eventFor h) (eventFor k) later (map eventOf xs) (map eventOf xs′)
+            → bookAfter cells formatted (map eventOf xs′) .stored ≡ bookAfter cells formatted (map eventOf xs) .stored
+        go (same p) = ap (λ (es : List Event). bookAfter cells formatted es .stored) p
+        go (between p q) = rw (p, q, then (eventFor k ∷ []), then (eventFor h ∷ [])) (stored-between cells b h k sound both)
+        go (behind zs ws l p q) =
+            let typed-zs = typed-parts zs ws (subst TypedEvents l (typed-before .1)) .0 in
+            rw (p, q, then (oneThenOther k h zs), then (oneThenOther h k zs)) (ap (λ (x : Book). x .stored) (either zs typed-zs .cut cut))
+
   same-results : SameResults own before h k later ss ss′
-  same-results = record { accepted = swapped-accepted; answers = same-answers; counts = same-counts; cells = same-cells }
+  same-results = record {
+    accepted = swapped-accepted;
+    answers = same-answers;
+    counts = same-counts;
+    cells = same-cells;
+    charts = charts-so-far;
+    logs = λ five xs ys xs′ ys′ e e′ n. log-so-far xs ys xs′ ys′ e e′ n five;
+  }
 
 -- 02, L5
 pub hand-overs-swapped : Swapped

@@ -9,7 +9,7 @@ use lib.IntN.{ℤ}
 use Rattle.book.specs.Limits.{cellLimit}
 use Rattle.book.specs.Events.{Event}
 use Rattle.book.specs.Pages.{cellOf}
-use Rattle.book.specs.Swapped.{Single, eventFor, oneThenOther}
+use Rattle.book.specs.Swapped.{Single, eventFor, DoneOrCut, oneThenOther}
 use Rattle.state.specs.World.{World}
 use Rattle.state.specs.Contracts.{Answered, FormatPost}
 use Rattle.sessions.specs.Host.{Opening, Called, Session, Step, opened, called, steps, answerOf, writesOf, eventOf, worldAfterAll, Host, Contracts}
@@ -26,12 +26,13 @@ pub record TwoHandOvers (before : List Event) (h k : Single) (later : List Event
   pub other : eventOf (called d) ≡ eventFor k
   pub eventsLater : map eventOf ys ≡ later
 
--- 02: "two single hand-overs (kind 3) of different cells that follow one another and are both accepted", that is, answered 0
+-- 02: "two single hand-overs (kind 3) of different cells that follow one another and are both accepted": no check refuses them. The second is answered 0, or 5
+-- where the power fails while it stores a full tail; after a first that is answered 0 the store is open, so a 5 of the second is nothing else.
 pub record Accepted (before : List Event) (h k : Single) (later : List Event) (ss : List Step) : Type 0 where
   pub two : TwoHandOvers before h k later ss
   pub apart : h .cell ≢ k .cell
   pub first : two .c .result .answer .number ≡ 0
-  pub second : two .d .result .answer .number ≡ 0
+  pub second : DoneOrCut (two .d .result .answer .number)
 
 -- 02: "the swapped order is accepted too", and "every later list of calls and openings then gives the same results and cells". 02 leaves out a cut that
 -- keeps just one of the two rows; it is not left out here. `own` is what the store holds before the steps.
@@ -44,6 +45,12 @@ pub record SameResults (own : World) (before : List Event) (h k : Single) (later
   pub cells : (xs ys xs′ ys′ : List Step) (o o′ : Opening) → ss ≡ xs ++ (opened o ∷ ys) → ss′ ≡ xs′ ++ (opened o′ ∷ ys′) → length xs′ ≡ length xs →
       o .result .answer .number ≡ 0 → (c : ℕ) → c < cellLimit →
       cellOf (worldAfterAll own (xs′ ++ (opened o′ ∷ [])) .copy) c ≡ cellOf (worldAfterAll own (xs ++ (opened o ∷ [])) .copy) c
+  -- after every opening and every call the stored charts are the same, byte for byte
+  pub charts : (xs ys xs′ ys′ : List Step) → ss ≡ xs ++ ys → ss′ ≡ xs′ ++ ys′ → length xs′ ≡ length xs →
+      worldAfterAll own xs′ .charts ≡ worldAfterAll own xs .charts
+  -- and the stored logs, where the power fails in the second of the two: neither row is kept then
+  pub logs : accepted .two .d .result .answer .number ≡ 5 → (xs ys xs′ ys′ : List Step) → ss ≡ xs ++ ys → ss′ ≡ xs′ ++ ys′ → length xs′ ≡ length xs →
+      worldAfterAll own xs′ .log ≡ worldAfterAll own xs .log
 
 -- two lists of steps, the one with two such hand-overs, the other with the same openings and calls but for the order of these two
 abbrev pub AlikeInEitherOrder : World → List Step → List Step → Type 0
