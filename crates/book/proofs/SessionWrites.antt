@@ -14,7 +14,7 @@ use Rattle.book.specs.Power.{Book, Fuse, left}
 use Rattle.book.specs.Book.{call, opening}
 use Rattle.book.specs.Events.{Event, opens, calls, happens, bookAfter}
 use Rattle.book.specs.Writes.{Writes, noWrites, rowsBetween, pagesOf}
-use Rattle.book.specs.SessionWrites.{eventWrites, writes, plus, summed, together, moreBy, Counted, starts, NoStart, isFlush, flushDone, flushesDone, SessionCounts}
+use Rattle.book.specs.SessionWrites.{eventWrites, writes, plus, summed, together, moreBy, Counted, starts, NoStart, isFlush, flushDone, flushesDone, SessionCounts, StretchCounts}
 use Rattle.book.specs.Logs.{Sound}
 use Rattle.book.proofs.Lists.{clash}
 use Rattle.book.proofs.Claims.{grows}
@@ -116,4 +116,34 @@ module _ (cells : ℕ → ℤ) where
     rows = rows-add b (opens true f ∷ es) s (tt, t);
     pages = pages-add b (opens true f ∷ es);
     fuse = fuse-adds f (eventWrites cells b (opens true f)) (opening b true f .book) es (sound-event cells b (opens true f) s tt) t q (opening-counted cells b f);
+  }
+
+  -- in a closed book nothing lands, and it stays as it is
+  idle-events : (b : Book) (es : List Event) → NoStart es → b .isOpen ≡ false → (summed (writes cells b es) ≡ noWrites) × (bookAfter cells b es ≡ b)
+  idle-events b [] q o = (refl, refl)
+  idle-events b (e ∷ es) q o =
+      let one = still e (q .0) in
+      let rest = idle-events b es (q .1) o in
+      (ap₂ plus (one .1) (ap (λ (c : Book). summed (writes cells c es)) (one .0) ∙ rest .0), ap (λ (c : Book). bookAfter cells c es) (one .0) ∙ rest .1)
+    where
+      still : (e : Event) → starts e ≡ false → (happens cells b e .book ≡ b) × (eventWrites cells b e ≡ noWrites)
+      still (opens true f) q = clash true refl q
+      still (opens false f) q = refused-opening cells b f
+      still (calls lengths k) q = closed-writes cells b lengths k o
+
+  -- and over any stretch of it
+  pub stretch-counts : (b : Book) (es : List Event) → Sound b → TypedEvents es → NoStart es
+      → StretchCounts b (summed (writes cells b es)) (flushesDone cells b es) (bookAfter cells b es)
+  stretch-counts b es s t q = record {
+    running = λ o. record {
+      rows = rows-add b es s t;
+      pages = pages-add b es;
+      fuse =
+          subst (λ (w : Writes). Counted (b .fuse) w (bookAfter cells b es)) (ap₂ (λ (m p : ℕ). record { rows = m; pages = p }) (omega arith) (omega arith))
+          (fuse-adds (b .fuse) noWrites b es s t q
+          (subst (λ (n : ℕ). Counted (b .fuse) (record { rows = n; pages = 0 }) b) (same-rows (b .stored)) (counted-none b o)));
+    };
+    idle = λ o.
+        let none = idle-events b es q o in
+        (none .0, sym (pages-add b es) ∙ ap (λ (w : Writes). w .pages) (none .0), none .1);
   }

@@ -3,12 +3,12 @@ use Prim.Native.Nat.{ℕ, _<_}
 use mathlib.Core.Path.{_≡_, ap, ap₂, sym, _∙_, subst}
 use mathlib.Core.Bool.{Bool, true, false}
 use mathlib.Core.Logic.{_↔_, _≢_}
-use mathlib.Core.List.{List, [], _∷_, _++_, map, append-assoc, append-nil}
+use mathlib.Core.List.{List, [], _∷_, _++_, map, append-assoc}
 use lib.ListN.{length}
 use lib.IntN.{ℤ}
-use Rattle.book.proofs.SessionWrites.{session-counts}
+use Rattle.book.proofs.SessionWrites.{session-counts, stretch-counts}
 use Rattle.book.specs.Writes.{Writes}
-use Rattle.book.specs.SessionWrites.{writes, summed, NoStart, flushesDone, SessionCounts}
+use Rattle.book.specs.SessionWrites.{writes, summed, NoStart, flushesDone, SessionCounts, StretchCounts}
 use Rattle.book.specs.Lists.{StartsWith, any, foldl, keep}
 use Rattle.book.specs.Limits.{cellLimit}
 use Rattle.book.specs.Pages.{cellOf, pageBytes, pageAfter}
@@ -30,7 +30,7 @@ use Rattle.book.proofs.Pages.{Bounded}
 use Rattle.state.specs.World.{World, rightLengths}
 use Rattle.state.specs.Contracts.{cellsOf, withPage}
 use Rattle.state.proofs.FormattedStores.{Formatted, new-charts, newCharts, formatted-store}
-use Rattle.sessions.specs.Host.{Opening, Called, Step, opened, called, steps, answerOf, eventOf, worldAfter, worldAfterAll, callsFollow, writesOf, Host}
+use Rattle.sessions.specs.Host.{Opening, Called, Step, opened, called, steps, answerOf, eventOf, worldAfter, worldAfterAll, callsFollow, writesOf}
 use Rattle.sessions.specs.Demand3.{bookOf, logOf, Lasts, Begun, Rises, Wrote, Holds, Demand3, isFlushDone}
 use Rattle.sessions.proofs.Held.{Held, held-world, ByBook}
 use Rattle.sessions.proofs.Along.{typed, book-append, At, first, reach, answered, step-counts, flushes-counted, at-first}
@@ -184,25 +184,39 @@ module _ (cells : ℕ → ℤ) (small : Bounded 1000000 cells) (own : World) (ss
 
   -- ── The counts of a session ─────────────────────────────────────────────────────────────────────────────────────────
 
+  -- what holds of the counts, the flushes and the book by the book holds of those of the steps
+  by-events : (xs ys zs : List Step) → ss ≡ xs ++ (ys ++ zs) → (P : Writes → ℕ → Book → Type 0)
+      → P (summed (writes cells (bookOf cells xs) (map eventOf ys))) (flushesDone cells (bookOf cells xs) (map eventOf ys)) (bookAfter cells (bookOf cells xs) (map eventOf ys))
+      → P (summed (map writesOf ys)) (length (keep isFlushDone ys)) (bookOf cells (xs ++ ys))
+  by-events xs ys zs e P p =
+      let b = bookOf cells xs in
+      let w = worldAfterAll own xs in
+      let follow = foldl callsFollow true xs in
+      let a = at-first cells small ys zs b w follow (there xs (ys ++ zs) e) in
+      let sum = ap summed (step-counts cells small ys b w follow a) in
+      let flushes = flushes-counted cells small ys b w follow a in
+      subst (λ (x : Book). P (summed (map writesOf ys)) (length (keep isFlushDone ys)) x) (sym (book-append cells formatted xs ys))
+      (subst (λ (n : ℕ). P (summed (map writesOf ys)) n (bookAfter cells b (map eventOf ys))) (sym flushes)
+      (subst (λ (v : Writes). P v (flushesDone cells b (map eventOf ys)) (bookAfter cells b (map eventOf ys))) (sym sum) p))
+
   adds-up : (xs ys zs : List Step) (o : Opening) → ss ≡ xs ++ (opened o ∷ (ys ++ zs)) → rightLengths (o .given) ≡ true → NoStart (map eventOf ys)
       → SessionCounts (o .fuse) (logOf cells xs) (summed (map writesOf (opened o ∷ ys))) (length (keep isFlushDone (opened o ∷ ys)))
       (bookOf cells (xs ++ (opened o ∷ ys)))
   adds-up xs ys zs o e len none =
       let b = bookOf cells xs in
-      let w = worldAfterAll own xs in
-      let follow = foldl callsFollow true xs in
-      let a = at-first cells small (opened o ∷ ys) zs b w follow (there xs (opened o ∷ (ys ++ zs)) e) in
-      let es : map eventOf (opened o ∷ ys) ≡ opens true (o .fuse) ∷ map eventOf ys = ap (λ (t : Bool). opens t (o .fuse) ∷ map eventOf ys) len in
-      let t = typed w follow (opened o ∷ ys) [] (subst (Host w follow) (sym (append-nil (opened o ∷ ys))) (a .host)) in
-      let counts = session-counts cells b (o .fuse) (map eventOf ys) (a .held .sound) (t .1) none in
-      let sum : summed (map writesOf (opened o ∷ ys)) ≡ summed (writes cells b (opens true (o .fuse) ∷ map eventOf ys)) =
-      ap summed (step-counts cells small (opened o ∷ ys) b w follow a ∙ ap (writes cells b) es) in
-      let flushes = flushes-counted cells small (opened o ∷ ys) b w follow a ∙ ap (flushesDone cells b) es in
-      let after : bookOf cells (xs ++ (opened o ∷ ys)) ≡ bookAfter cells b (opens true (o .fuse) ∷ map eventOf ys) =
-      book-append cells formatted xs (opened o ∷ ys) ∙ ap (bookAfter cells b) es in
-      subst (λ (x : Book). SessionCounts (o .fuse) (logOf cells xs) (summed (map writesOf (opened o ∷ ys))) (length (keep isFlushDone (opened o ∷ ys))) x) (sym after)
-      (subst (λ (n : ℕ). SessionCounts (o .fuse) (logOf cells xs) (summed (map writesOf (opened o ∷ ys))) n (bookAfter cells b (opens true (o .fuse) ∷ map eventOf ys))) (sym flushes)
-      (subst (λ (w : Writes). SessionCounts (o .fuse) (logOf cells xs) w (flushesDone cells b (opens true (o .fuse) ∷ map eventOf ys)) (bookAfter cells b (opens true (o .fuse) ∷ map eventOf ys))) (sym sum) counts))
+      let a = there xs (opened o ∷ (ys ++ zs)) e in
+      let t = typed _ _ ys zs (a .host .1) in
+      by-events xs (opened o ∷ ys) zs e (SessionCounts (o .fuse) (logOf cells xs))
+      (subst (λ (x : Bool). let es = opens x (o .fuse) ∷ map eventOf ys in
+      SessionCounts (o .fuse) (logOf cells xs) (summed (writes cells b es)) (flushesDone cells b es) (bookAfter cells b es)) (sym len)
+      (session-counts cells b (o .fuse) (map eventOf ys) (a .held .sound) t none))
+
+  stretch-adds-up : (xs ys zs : List Step) → ss ≡ xs ++ (ys ++ zs) → NoStart (map eventOf ys)
+      → StretchCounts (bookOf cells xs) (summed (map writesOf ys)) (length (keep isFlushDone ys)) (bookOf cells (xs ++ ys))
+  stretch-adds-up xs ys zs e none =
+      let a = there xs (ys ++ zs) e in
+      by-events xs ys zs e (StretchCounts (bookOf cells xs))
+      (stretch-counts cells (bookOf cells xs) (map eventOf ys) (a .held .sound) (typed _ _ ys zs (a .host)) none)
 
   -- ── The stored charts ───────────────────────────────────────────────────────────────────────────────────────────────
 
@@ -241,6 +255,7 @@ module _ (cells : ℕ → ℤ) (small : Bounded 1000000 cells) (own : World) (ss
     charts = unflushed;
     flushed = flushed;
     session = adds-up;
+    stretch = stretch-adds-up;
   }
 
 -- ── Demand 3 ──────────────────────────────────────────────────────────────────────────────────────────────────────────

@@ -16,7 +16,7 @@ use Rattle.book.specs.Calls.{Call}
 use Rattle.book.specs.Power.{Book, PowerHolds, rowsOf, formatted}
 use Rattle.book.specs.Book.{Answer, answer, closing}
 use Rattle.book.specs.Events.{answers, bookAfter}
-use Rattle.book.specs.SessionWrites.{writes, summed, NoStart, flushDone, SessionCounts}
+use Rattle.book.specs.SessionWrites.{writes, summed, NoStart, flushDone, SessionCounts, StretchCounts}
 use Rattle.book.specs.LogBytes.{logBytes}
 use Rattle.book.specs.Pages.{cellOf, rowAt, pageBytes, pageAfter}
 use Rattle.book.specs.Logs.{Logged, InSum, undoes, Once}
@@ -118,6 +118,9 @@ pub record Holds (cells : ℕ → ℤ) (own : World) (ss : List Step) : Type 0 w
   pub session : (xs ys zs : List Step) (o : Opening) → ss ≡ xs ++ (opened o ∷ (ys ++ zs)) → rightLengths (o .given) ≡ true → NoStart (map eventOf ys) →
       SessionCounts (o .fuse) (logOf cells xs) (summed (map writesOf (opened o ∷ ys))) (length (keep isFlushDone (opened o ∷ ys)))
       (bookOf cells (xs ++ (opened o ∷ ys)))
+  -- and of any stretch of steps in which no such opening is, wherever it starts
+  pub stretch : (xs ys zs : List Step) → ss ≡ xs ++ (ys ++ zs) → NoStart (map eventOf ys) →
+      StretchCounts (bookOf cells xs) (summed (map writesOf ys)) (length (keep isFlushDone ys)) (bookOf cells (xs ++ ys))
 
 -- After an accepted format, any list of sessions of a host that keeps to 01, whatever functions meet the contracts.
 unfoldable pub Demand3 : Type 0
