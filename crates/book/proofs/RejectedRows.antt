@@ -131,6 +131,15 @@ pub scope-too-many : map (judgedRow (scopes 64)) (Row.change 1 64 (pos 1) ∷ Ro
 unfolding computes
 scope-too-many = refl
 
+-- a scope is in use while the holder of its changes is active: also where its only change is undone, and where the visit that made its changes has ended
+pub emptied-scope : judgedRow (scopes 64 ++ (Row.undo 1 63 66 (pos 1) ∷ [])) (Row.change 2 64 (pos 1)) ≡ 17
+unfolding computes
+emptied-scope = refl
+
+pub scopes-by-holder : judgedRow (scopes 64 ++ (Row.handOverAll 1 2 ∷ Row.commit 1 ∷ [])) (Row.change 2 64 (pos 1)) ≡ 17
+unfolding computes
+scopes-by-holder = refl
+
 -- after 4,091 rows 5 are free, and the reserve is 3; the first visit holds the change, after one row more the second, then the first again
 pub five-free : map (judgedAt rows4091 4092) (Row.begin 3 ∷ Row.change 1 0 (pos 1) ∷ Row.handOver 1 2 0 ∷ Row.handOverAll 1 2 ∷ []) ≡ 0 ∷ 0 ∷ 0 ∷ 0 ∷ []
 unfolding computes

@@ -225,3 +225,9 @@ commit-after-undo = refl
 pub abort-too-early : allowedAfter undoneOne (Row.abort 1) ≡ false
 unfolding computes
 abort-too-early = refl
+
+-- a change that was handed over is the receiver's: the giver may abort, and the receiver may not
+pub abort-of-the-giver :
+    map (allowedAfter (Row.begin 1 ∷ Row.begin 2 ∷ Row.change 1 0 (pos 7) ∷ Row.handOver 1 2 0 ∷ [])) (Row.abort 1 ∷ Row.abort 2 ∷ []) ≡ true ∷ false ∷ []
+unfolding computes
+abort-of-the-giver = refl

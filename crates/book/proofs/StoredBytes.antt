@@ -203,6 +203,11 @@ pub marks : tabulate 8 0 (λ m. isPage pageRows 1 (marked m)) ≡ true ∷ false
 unfolding computes
 marks = refl
 
+-- a change of 0 g is a change row of its page
+pub mark-of-no-grams : isPage (Row.begin 1 ∷ Row.change 1 0 (pos 0) ∷ []) 0 (marked 2) ≡ true
+unfolding computes
+mark-of-no-grams = refl
+
 -- 01: "bytes 2-3 not zero"
 pub bytes-2-3 : map (λ i. isPage [] 0 (set (marked 0) i 1)) (2 ∷ 3 ∷ []) ≡ false ∷ false ∷ []
 unfolding computes

@@ -2,3 +2,4 @@ pub mod CallBytes
 pub mod Codes
 pub mod Bodies
 pub mod RunFiles
+pub mod AtTheLimit
