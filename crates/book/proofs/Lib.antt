@@ -74,3 +74,5 @@ pub mod TwoOrders
 pub mod StoredWrites
 pub mod StoredCounts
 pub mod StoredBytes
+-- uses of the statements
+pub mod Uses

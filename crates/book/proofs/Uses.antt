@@ -1,0 +1,403 @@
+-- What the statements of specs/ say of worked examples: each field, taken to a fact about rows, answers or numbers. A field that says less, or nothing, leaves
+-- its fact unproved. So that computing does not prove the fact without the field, what is computed stands apart, and nothing is unfolded where a field is used.
+use Prim.Native.Nat.{ℕ, _+_, _≤_, _<_}
+use native.Mathlib.Omega.{arith}
+use mathlib.Core.Path.{_≡_, refl, ap, sym, _∙_}
+use mathlib.Core.Bool.{true, false, _&&_}
+use mathlib.Core.List.{List, [], _∷_, map, List·Memᴰ·head, List·Memᴰ·tail, List·Memᴰ·not-nil}
+use lib.ListN.{length, take, replicate}
+use lib.IntN.{ℤ, pos, negsuc}
+use Rattle.book.specs.Lists.{member, foldl}
+use Rattle.book.specs.Rows.{Row, isCell, fits}
+use Rattle.book.specs.Ledger.{Ledger, only, after, ledger}
+use Rattle.book.specs.Rules.{holdsAny, lawful, withinLimits, allowed, allowedLog}
+use Rattle.book.specs.Calls.{Call}
+use Rattle.book.specs.Power.{Book, Fuse, none, left, formatted}
+use Rattle.book.specs.Cells.{zeros, keptSum}
+use Rattle.book.specs.Book.{Answer, answer, done, refusal, starting, reopen, opening}
+use Rattle.book.specs.Events.{Event, opens, calls, happens, answers, bookAfter}
+use Rattle.book.specs.Writes.{Writes, openingWrites}
+use Rattle.book.specs.SessionWrites.{writes, summed, together, flushesDone, SessionCounts}
+use Rattle.book.specs.Swapped.{eventFor, oneThenOther, EitherOrder}
+use Rattle.book.specs.OpeningCost.{BeginsAndChanges, Cost, costliest, Costliest}
+use Rattle.book.specs.HandOverAll.{butRows, heldCells, allLawful, MeansSingles, AcceptedAlike, AllowedAlike}
+use Rattle.book.specs.RowBytes.{rowBytes, rowOf}
+use Rattle.book.specs.Numbers.{AreBytes}
+use Rattle.book.specs.LogBytes.{logBytes, good, bad, readLog}
+use Rattle.book.specs.Reading.{bytesOfRow, Reason, wrongBytes, breaksRule, overLimit, BadFor, ReadsExactly, Demand2Reading}
+use Rattle.book.specs.OldLogs.{oldFits, oldAllowedLog, oldRowBytes, oldLogBytes, OldRows, OldLog, OldLogs}
+use Rattle.book.proofs.Lists.{clash, in-cons}
+use Rattle.book.proofs.HandOverAll.{hand-over-all-accepted, hand-over-all-allowed}
+use Rattle.book.proofs.HeldCells.{hand-over-all-means}
+use Rattle.book.proofs.OldLogs.{old-rows, old-logs}
+use Rattle.book.proofs.Sound.{sound-formatted, sound-events}
+use Rattle.book.proofs.SessionWrites.{session-counts}
+use Rattle.book.proofs.Swapped.{either-order}
+use Rattle.book.proofs.Reading.{demand-2-reading}
+use Rattle.book.proofs.OpeningCost.{reopen-cost}
+use Rattle.book.proofs.CostliestLogs.{costliest-log}
+use Rattle.book.proofs.WorkedExamples.{computes}
+use Rattle.book.proofs.TwoOrders.{ofCell0, ofCell7, threeVisits, accepted-in-order}
+
+-- ── 02, L2: a whole visit ─────────────────────────────────────────────────────────────────────────────────────────────
+
+-- 1 changes the first cell and the last, 2 another one
+abbrev twoCells : List Row
+twoCells = Row.begin 1 ∷ Row.begin 2 ∷ Row.change 1 0 (pos 70) ∷ Row.change 1 223 (negsuc 19) ∷ Row.change 2 5 (pos 1) ∷ []
+
+two-allowed : allowedLog twoCells ≡ true
+unfolding computes
+two-allowed = refl
+
+two-lawful : lawful (ledger twoCells) (Row.handOverAll 1 2) ≡ true
+unfolding computes
+two-lawful = refl
+
+two-mean : MeansSingles (ledger twoCells) 1 2
+two-mean = hand-over-all-means twoCells 1 2 two-allowed two-lawful
+
+two-held : heldCells (ledger twoCells) 1 ≡ 0 ∷ 223 ∷ []
+unfolding computes
+two-held = refl
+
+-- that 1 holds a change of cell 223, none of cell 5, and none of cell 224, which is no cell
+held-223 : (holdsAny (ledger twoCells) 1 (only 223) && isCell 223) ≡ true
+unfolding computes
+held-223 = refl
+
+held-5 : (holdsAny (ledger twoCells) 1 (only 5) && isCell 5) ≡ false
+unfolding computes
+held-5 = refl
+
+pub listed-223 : member 223 (heldCells (ledger twoCells) 1) ≡ true
+listed-223 = two-mean .cells 223 ∙ held-223
+
+pub not-listed-5 : member 5 (heldCells (ledger twoCells) 1) ≡ false
+not-listed-5 = two-mean .cells 5 ∙ held-5
+
+pub singles-follow : allLawful (ledger twoCells) (Row.handOver 1 2 0 ∷ Row.handOver 1 2 223 ∷ []) ≡ true
+singles-follow = rw two-held at (two-mean .follow)
+
+pub same-as-singles : butRows (after (ledger twoCells) (Row.handOverAll 1 2)) ≡
+    butRows (after (after (ledger twoCells) (Row.handOver 1 2 0)) (Row.handOver 1 2 223))
+same-as-singles = rw two-held at (two-mean .same)
+
+-- the book with these rows stored
+abbrev twoStored : Book
+twoStored = starting none twoCells
+
+two-alike : AcceptedAlike twoStored 1 2
+unfolding computes
+two-alike = hand-over-all-accepted twoStored 1 2 refl
+
+whole-accepted : refusal twoStored (Call.handOverAll 1 2) ≡ 0
+unfolding computes
+whole-accepted = refl
+
+single-accepted : refusal twoStored (Call.handOver 1 2 223) ≡ 0
+unfolding computes
+single-accepted = refl
+
+pub some-single-accepted : (c : ℕ) × (refusal twoStored (Call.handOver 1 2 c) ≡ 0)
+some-single-accepted = two-alike .some whole-accepted
+
+pub accepted-as-a-single : refusal twoStored (Call.handOverAll 1 2) ≡ 0
+accepted-as-a-single = two-alike .all 223 single-accepted
+
+whole-allowed : allowed (ledger twoCells) (Row.handOverAll 1 2) ≡ true
+unfolding computes
+whole-allowed = refl
+
+single-allowed : allowed (ledger twoCells) (Row.handOver 1 2 223) ≡ true
+unfolding computes
+single-allowed = refl
+
+pub some-single-allowed : (c : ℕ) × (allowed (ledger twoCells) (Row.handOver 1 2 c) ≡ true)
+some-single-allowed = hand-over-all-allowed twoCells 1 2 two-allowed .some whole-allowed
+
+pub allowed-as-a-single : allowed (ledger twoCells) (Row.handOverAll 1 2) ≡ true
+allowed-as-a-single = hand-over-all-allowed twoCells 1 2 two-allowed .all 223 single-allowed
+
+-- ── 02, L7: old logs ──────────────────────────────────────────────────────────────────────────────────────────────────
+
+old-hand-over : oldRowBytes 258 (Row.handOver 255 254 9) ≡ 3 ∷ 255 ∷ 254 ∷ 9 ∷ 2 ∷ 1 ∷ 0 ∷ 0 ∷ 0 ∷ 0 ∷ 0 ∷ 0 ∷ 0 ∷ 0 ∷ 0 ∷ 0 ∷ []
+unfolding oldRowBytes
+old-hand-over = refl
+
+old-fits : oldFits (Row.handOver 255 254 9) ≡ true
+unfolding oldFits
+old-fits = refl
+
+pub bytes-of-before : rowBytes 258 (Row.handOver 255 254 9) ≡ 3 ∷ 255 ∷ 254 ∷ 9 ∷ 2 ∷ 1 ∷ 0 ∷ 0 ∷ 0 ∷ 0 ∷ 0 ∷ 0 ∷ 0 ∷ 0 ∷ 0 ∷ 0 ∷ []
+unfolding OldRows
+bytes-of-before = old-rows 258 (Row.handOver 255 254 9) old-fits ∙ old-hand-over
+
+-- a log of two rows
+abbrev oldLog : List Row
+oldLog = Row.begin 1 ∷ Row.commit 1 ∷ []
+
+old-allowed : oldAllowedLog oldLog ≡ true
+unfolding computes oldFits
+old-allowed = refl
+
+two-old : OldLog oldLog
+unfolding OldLogs
+two-old = old-logs oldLog old-allowed
+
+old-bytes : take 32 (oldLogBytes oldLog) ≡
+    1 ∷ 1 ∷ 0 ∷ 0 ∷ 1 ∷ 0 ∷ 0 ∷ 0 ∷ 0 ∷ 0 ∷ 0 ∷ 0 ∷ 0 ∷ 0 ∷ 0 ∷ 0 ∷ 5 ∷ 1 ∷ 0 ∷ 0 ∷ 2 ∷ 0 ∷ 0 ∷ 0 ∷ 0 ∷ 0 ∷ 0 ∷ 0 ∷ 0 ∷ 0 ∷ 0 ∷ 0 ∷ []
+unfolding oldLogBytes oldRowBytes
+old-bytes = refl
+
+pub old-log-allowed : allowedLog oldLog ≡ true
+old-log-allowed = two-old .allowed
+
+pub old-log-bytes : take 32 (logBytes oldLog) ≡
+    1 ∷ 1 ∷ 0 ∷ 0 ∷ 1 ∷ 0 ∷ 0 ∷ 0 ∷ 0 ∷ 0 ∷ 0 ∷ 0 ∷ 0 ∷ 0 ∷ 0 ∷ 0 ∷ 5 ∷ 1 ∷ 0 ∷ 0 ∷ 2 ∷ 0 ∷ 0 ∷ 0 ∷ 0 ∷ 0 ∷ 0 ∷ 0 ∷ 0 ∷ 0 ∷ 0 ∷ 0 ∷ []
+old-log-bytes = ap (take 32) (two-old .bytes) ∙ old-bytes
+
+pub old-log-read : readLog (oldLogBytes oldLog) ≡ good oldLog
+old-log-read = two-old .read
+
+-- ── 02, L1: the counts of a session ───────────────────────────────────────────────────────────────────────────────────
+
+-- a visit begins and changes cell 0, and the page of the cell is flushed: two rows and a page, three writes
+abbrev flushing : List Event
+flushing = map (calls true) (Call.begin ∷ Call.change 1 0 (pos 9) ∷ Call.flush 0 ∷ [])
+
+abbrev flushed : Fuse → List Event
+flushed f = opens true f ∷ flushing
+
+-- what landed with this fuse
+abbrev landed : Fuse → Writes
+landed f = summed (writes zeros formatted (flushed f))
+
+flush-counts : (f : Fuse) → SessionCounts f [] (landed f) (flushesDone zeros formatted (flushed f)) (bookAfter zeros formatted (flushed f))
+flush-counts f = session-counts zeros formatted f flushing sound-formatted (tt, (tt, (tt, tt))) (refl, (refl, (refl, tt)))
+
+rows-2 : 0 + landed (left 3) .rows ≡ 2
+unfolding computes
+rows-2 = refl
+
+one-flush : flushesDone zeros formatted (flushed (left 3)) ≡ 1
+unfolding computes
+one-flush = refl
+
+still-open : bookAfter zeros formatted (flushed (left 3)) .isOpen ≡ true
+unfolding computes
+still-open = refl
+
+none-left : bookAfter zeros formatted (flushed (left 3)) .fuse ≡ left 0
+unfolding computes
+none-left = refl
+
+burnt-out : bookAfter zeros formatted (flushed (left 2)) .isOpen ≡ false
+unfolding computes
+burnt-out = refl
+
+pub two-rows-stored : length (bookAfter zeros formatted (flushed (left 3)) .stored) ≡ 2
+two-rows-stored = flush-counts (left 3) .rows ∙ rows-2
+
+pub one-page-counted : landed (left 3) .pages ≡ 1
+one-page-counted = flush-counts (left 3) .pages ∙ one-flush
+
+left-number : (m n : ℕ) → left m ≡ left n → m ≡ n
+left-number m n e = cc
+
+-- with three writes the fuse holds, and three are counted; with two it burns, and two are
+pub three-counted : together (landed (left 3)) + 0 ≡ 3
+three-counted = sym (left-number 3 _ (rw none-left at (flush-counts (left 3) .fuse .held still-open)))
+
+pub two-counted : together (landed (left 2)) ≡ 2
+two-counted = sym (left-number 2 _ (flush-counts (left 2) .fuse .burnt burnt-out))
+
+-- ── 02, L5: two hand-overs in either order ────────────────────────────────────────────────────────────────────────────
+
+-- three writes land, those of the begin rows; an opening follows at once
+abbrev three : Book
+three = bookAfter zeros formatted (threeVisits (left 3))
+
+abbrev readAgain : List Event
+readAgain = calls true (Call.read 0) ∷ opens true none ∷ calls true (Call.read 0) ∷ []
+
+orders : EitherOrder zeros three ofCell0 ofCell7 readAgain
+orders = either-order zeros three ofCell0 ofCell7 readAgain
+    (sound-events zeros formatted (threeVisits (left 3)) sound-formatted (tt, (tt, (tt, (tt, (tt, (tt, tt)))))))
+    (tt, (tt, (tt, tt))) (accepted-in-order zeros 0)
+
+-- what is computed of the one order
+in-order-answers : answers zeros three (oneThenOther ofCell0 ofCell7 readAgain) ≡
+    done (pos 6) ∷ done (pos 7) ∷ done (pos 70) ∷ done (pos 3) ∷ done (pos 0) ∷ []
+unfolding computes
+in-order-answers = refl
+
+abbrev threeRows : List Writes
+threeRows = record { rows = 0; pages = 0 } ∷ record { rows = 0; pages = 0 } ∷ record { rows = 0; pages = 0 } ∷ record { rows = 3; pages = 0 } ∷
+    record { rows = 0; pages = 0 } ∷ []
+
+in-order-counts : writes zeros three (oneThenOther ofCell0 ofCell7 readAgain) ≡ threeRows
+unfolding computes
+in-order-counts = refl
+
+in-order-ready : opening (bookAfter zeros three (oneThenOther ofCell0 ofCell7 readAgain)) true none .answer .number ≡ 0
+unfolding computes
+in-order-ready = refl
+
+in-order-sum : keptSum zeros (opening (bookAfter zeros three (oneThenOther ofCell0 ofCell7 readAgain)) true none .book .stored) 7 ≡ pos 0
+unfolding computes keptSum
+in-order-sum = refl
+
+pub swapped-first-accepted : happens zeros three (eventFor ofCell7) .answer .number ≡ 0
+swapped-first-accepted = orders .accepted .first
+
+pub swapped-second-accepted : happens zeros (happens zeros three (eventFor ofCell7) .book) (eventFor ofCell0) .answer .number ≡ 0
+swapped-second-accepted = orders .accepted .second
+
+pub swapped-answers : answers zeros three (oneThenOther ofCell7 ofCell0 readAgain) ≡
+    done (pos 6) ∷ done (pos 7) ∷ done (pos 70) ∷ done (pos 3) ∷ done (pos 0) ∷ []
+swapped-answers = orders .answers ∙ in-order-answers
+
+pub swapped-counts : writes zeros three (oneThenOther ofCell7 ofCell0 readAgain) ≡ threeRows
+swapped-counts = orders .counts ∙ in-order-counts
+
+pub swapped-sum : keptSum zeros (opening (bookAfter zeros three (oneThenOther ofCell7 ofCell0 readAgain)) true none .book .stored) 7 ≡ pos 0
+swapped-sum = orders .sums none in-order-ready 7 ∙ in-order-sum
+
+-- ── 02, L6: the cost of an opening ────────────────────────────────────────────────────────────────────────────────────
+
+-- a begin and a change: an opening writes two rows, the undo row and the abort row
+abbrev twoRows : List Row
+twoRows = Row.begin 1 ∷ Row.change 1 0 (pos 1) ∷ []
+
+-- what an opening of these rows costs
+abbrev costs : List Row → Type 0
+costs rs = Cost rs (reopen none rs .answer) (openingWrites rs (reopen none rs))
+
+-- the rows that it writes
+abbrev written : List Row → ℕ
+written rs = openingWrites rs (reopen none rs) .rows
+
+two-cost : costs twoRows
+unfolding computes
+two-cost = reopen-cost none twoRows refl
+
+two-ready : reopen none twoRows .answer .number ≡ 0
+unfolding computes
+two-ready = refl
+
+two-each : BeginsAndChanges twoRows
+two-each = in-cons refl (in-cons refl (λ r m. absurd (List·Memᴰ·not-nil m)))
+
+pub at-most-2 : written twoRows ≤ 2
+at-most-2 = two-cost .most
+
+pub at-most-4094 : written twoRows ≤ 4094
+at-most-4094 = two-cost .free
+
+pub at-most-2048 : written twoRows ≤ 2048
+at-most-2048 = two-cost .worst
+
+pub no-page : openingWrites twoRows (reopen none twoRows) .pages ≡ 0
+no-page = two-cost .pages
+
+pub two-written : written twoRows ≡ 2
+two-written = two-cost .reaches two-ready .1 two-each
+
+pub two-reported : reopen none twoRows .answer .value ≡ pos 2
+two-reported = two-cost .reports two-ready ∙ ap pos two-written
+
+-- of a log with a commit row, which an opening has nothing to write for, ready or not
+abbrev committed : List Row
+committed = Row.begin 1 ∷ Row.commit 1 ∷ []
+
+committed-cost : costs committed
+unfolding computes
+committed-cost = reopen-cost none committed refl
+
+committed-ready : reopen none committed .answer .number ≡ 0
+unfolding computes
+committed-ready = refl
+
+a-commit : BeginsAndChanges committed → ⊥
+a-commit each = clash false (each (Row.commit 1) (List·Memᴰ·tail (List·Memᴰ·head refl))) refl
+
+pub not-2-ready : written committed ≡ 2 → ⊥
+not-2-ready e = a-commit (committed-cost .reaches committed-ready .0 e)
+
+pub not-2 : written committed ≡ 2 → ⊥
+not-2 e = a-commit (committed-cost .only e)
+
+-- the longest log of begins and changes alone
+costliest-2048 : Costliest 2048 (costliest 2048)
+costliest-2048 = costliest-log 2048 (omega arith)
+
+pub length-2048 : length (costliest 2048) ≡ 2048
+length-2048 = costliest-2048 .long
+
+pub allowed-2048 : allowedLog (costliest 2048) ≡ true
+allowed-2048 = costliest-2048 .allowed
+
+pub each-of-2048 : BeginsAndChanges (costliest 2048)
+each-of-2048 = costliest-2048 .each
+
+-- ── 00, demand 2: what is read, and why a log is refused (02, L8) ─────────────────────────────────────────────────────
+
+-- the reason of each number
+limit-of : {l : Ledger} {n : ℕ} {bs : List ℕ} {k : ℕ} → Reason l n bs k → k ≡ 17 → withinLimits l (rowOf bs) ≡ false
+limit-of (wrongBytes w) e = absurd (omega arith)
+limit-of (breaksRule b) e = absurd (omega arith)
+limit-of (overLimit o) e = o .limit
+
+rule-of : {l : Ledger} {n : ℕ} {bs : List ℕ} {k : ℕ} → Reason l n bs k → k ≡ 16 → (fits (rowOf bs) && lawful l (rowOf bs)) ≡ false
+rule-of (wrongBytes w) e = absurd (omega arith)
+rule-of (breaksRule b) e = b .rule
+rule-of (overLimit o) e = absurd (omega arith)
+
+-- not a log: a visit ends that has not begun
+commit-alone : allowedLog (Row.commit 1 ∷ []) ≡ false
+unfolding computes
+commit-alone = refl
+
+-- of any 65,536 numbers
+module _ (bs : List ℕ) (long : length bs ≡ 65536) where
+  reading : ReadsExactly bs
+  unfolding Demand2Reading
+  reading = demand-2-reading bs long
+
+  pub two-rows-read : bs ≡ logBytes oldLog → readLog bs ≡ good oldLog
+  two-rows-read e = reading .reads oldLog .1 (old-log-allowed, e)
+
+  pub bytes-of-two-rows : readLog bs ≡ good oldLog → bs ≡ logBytes oldLog
+  bytes-of-two-rows e = reading .reads oldLog .0 e .1
+
+  pub no-commit-alone : readLog bs ≡ good (Row.commit 1 ∷ []) → ⊥
+  no-commit-alone e = clash _ (reading .reads (Row.commit 1 ∷ []) .0 e .0) commit-alone
+
+  -- no other number, no row before the first and none after the last
+  pub not-by-4 : (n : ℕ) → readLog bs ≡ bad 4 n → ⊥
+  not-by-4 n e = clash false (reading .refuses 4 n e .0) refl
+
+  pub not-row-0 : readLog bs ≡ bad 3 0 → ⊥
+  not-row-0 e = let h : 1 ≤ 0 = reading .refuses 3 0 e .1 .from in omega arith
+
+  pub not-row-4097 : readLog bs ≡ bad 3 4097 → ⊥
+  not-row-4097 e = let h : 4097 ≤ 4096 = reading .refuses 3 4097 e .1 .to in omega arith
+
+  -- row 2 is the first bad one: an allowed log of at most one row has the 16 bytes before it, and no allowed log has its bytes too
+  module _ (e : readLog bs ≡ bad 16 2) where
+    pub rows-before : (rs : List Row) × (allowedLog rs ≡ true) × (length rs < 2) × (take 16 (logBytes rs) ≡ take 16 bs)
+    rows-before = let x = reading .refuses 16 2 e .1 in (x .rows, x .before, x .few, x .agrees)
+
+    pub no-log-has-both : (rs : List Row) → allowedLog rs ≡ true → take 32 (logBytes rs) ≡ take 32 bs → ⊥
+    no-log-has-both rs al same = reading .refuses 16 2 e .1 .none rs al same
+
+  -- 16 says that a rule is broken, 17 that a limit is passed; each is answered where that is the reason
+  module _ (bytes : AreBytes bs) where
+    pub rule-broken : readLog bs ≡ bad 16 2 → (l : Ledger) × ((fits (rowOf (bytesOfRow 2 bs)) && lawful l (rowOf (bytesOfRow 2 bs))) ≡ false)
+    rule-broken e = let x = reading .reason bytes 16 2 .0 e in (ledger (x .0 .rows), rule-of (x .1) refl)
+
+    pub limit-passed : readLog bs ≡ bad 17 2 → (l : Ledger) × (withinLimits l (rowOf (bytesOfRow 2 bs)) ≡ false)
+    limit-passed e = let x = reading .reason bytes 17 2 .0 e in (ledger (x .0 .rows), limit-of (x .1) refl)
+
+    pub answered-by-17 : BadFor bs 17 2 → readLog bs ≡ bad 17 2
+    answered-by-17 x = reading .reason bytes 17 2 .1 x
