@@ -7,8 +7,8 @@ use mathlib.Core.Bool.{true, false, _&&_}
 use mathlib.Core.List.{List, [], _∷_, map, List·Memᴰ·head, List·Memᴰ·tail, List·Memᴰ·not-nil}
 use lib.ListN.{length, take, replicate}
 use lib.IntN.{ℤ, pos, negsuc}
-use Rattle.book.specs.Lists.{member, foldl}
-use Rattle.book.specs.Rows.{Row, isCell, fits}
+use Rattle.book.specs.Lists.{keep, member}
+use Rattle.book.specs.Rows.{Row, isCell, isUndo, fits}
 use Rattle.book.specs.Ledger.{Ledger, only, after, ledger}
 use Rattle.book.specs.Rules.{holdsAny, lawful, withinLimits, allowed, allowedLog}
 use Rattle.book.specs.Calls.{Call}
@@ -17,7 +17,7 @@ use Rattle.book.specs.Cells.{zeros, keptSum}
 use Rattle.book.specs.Book.{Answer, answer, done, refusal, starting, reopen, opening}
 use Rattle.book.specs.Events.{Event, opens, calls, happens, answers, bookAfter}
 use Rattle.book.specs.Writes.{Writes, openingWrites}
-use Rattle.book.specs.SessionWrites.{writes, summed, together, flushesDone, SessionCounts}
+use Rattle.book.specs.SessionWrites.{writes, summed, together, Counted, flushesDone, SessionCounts}
 use Rattle.book.specs.Swapped.{eventFor, oneThenOther, EitherOrder}
 use Rattle.book.specs.OpeningCost.{BeginsAndChanges, Cost, costliest, Costliest}
 use Rattle.book.specs.HandOverAll.{butRows, heldCells, allLawful, MeansSingles, AcceptedAlike, AllowedAlike}
@@ -25,6 +25,8 @@ use Rattle.book.specs.RowBytes.{rowBytes, rowOf}
 use Rattle.book.specs.Numbers.{AreBytes}
 use Rattle.book.specs.LogBytes.{logBytes, good, bad, readLog}
 use Rattle.book.specs.Reading.{bytesOfRow, Reason, wrongBytes, breaksRule, overLimit, BadFor, ReadsExactly, Demand2Reading}
+use Rattle.book.specs.Pages.{cellOf}
+use Rattle.book.specs.Cases.{cutAfterFlush, firstOpening, secondOpening}
 use Rattle.book.specs.OldLogs.{oldFits, oldAllowedLog, oldRowBytes, oldLogBytes, OldRows, OldLog, OldLogs}
 use Rattle.book.proofs.Lists.{clash, in-cons}
 use Rattle.book.proofs.HandOverAll.{hand-over-all-accepted, hand-over-all-allowed}
@@ -37,7 +39,26 @@ use Rattle.book.proofs.Reading.{demand-2-reading}
 use Rattle.book.proofs.OpeningCost.{reopen-cost}
 use Rattle.book.proofs.CostliestLogs.{costliest-log}
 use Rattle.book.proofs.WorkedExamples.{computes}
+use Rattle.book.proofs.Cases.{cases}
 use Rattle.book.proofs.TwoOrders.{ofCell0, ofCell7, threeVisits, accepted-in-order}
+
+-- ── 01: the cases marked * ────────────────────────────────────────────────────────────────────────────────────────────
+
+-- twelve: the last is in its place
+pub undone-once-in-log : keep isUndo (bookAfter zeros formatted cutAfterFlush .stored) ≡ Row.undo 1 0 2 (pos 9) ∷ []
+undone-once-in-log = cases .11 .0 .1
+
+pub two-rows-written : firstOpening .answer ≡ done (pos 2)
+two-rows-written = cases .11 .1 .first
+
+pub cell-of-first : cellOf (firstOpening .copy) 0 ≡ pos 0
+cell-of-first = cases .11 .1 .cell
+
+pub none-written-again : secondOpening .answer ≡ done (pos 0)
+none-written-again = cases .11 .1 .second
+
+pub cell-of-second : cellOf (secondOpening .copy) 0 ≡ pos 0
+cell-of-second = cases .11 .1 .again
 
 -- ── 02, L2: a whole visit ─────────────────────────────────────────────────────────────────────────────────────────────
 
@@ -45,16 +66,16 @@ use Rattle.book.proofs.TwoOrders.{ofCell0, ofCell7, threeVisits, accept
 abbrev twoCells : List Row
 twoCells = Row.begin 1 ∷ Row.begin 2 ∷ Row.change 1 0 (pos 70) ∷ Row.change 1 223 (negsuc 19) ∷ Row.change 2 5 (pos 1) ∷ []
 
-two-allowed : allowedLog twoCells ≡ true
+cells-allowed : allowedLog twoCells ≡ true
 unfolding computes
-two-allowed = refl
+cells-allowed = refl
 
 two-lawful : lawful (ledger twoCells) (Row.handOverAll 1 2) ≡ true
 unfolding computes
 two-lawful = refl
 
 two-mean : MeansSingles (ledger twoCells) 1 2
-two-mean = hand-over-all-means twoCells 1 2 two-allowed two-lawful
+two-mean = hand-over-all-means twoCells 1 2 cells-allowed two-lawful
 
 two-held : heldCells (ledger twoCells) 1 ≡ 0 ∷ 223 ∷ []
 unfolding computes
@@ -113,10 +134,10 @@ unfolding computes
 single-allowed = refl
 
 pub some-single-allowed : (c : ℕ) × (allowed (ledger twoCells) (Row.handOver 1 2 c) ≡ true)
-some-single-allowed = hand-over-all-allowed twoCells 1 2 two-allowed .some whole-allowed
+some-single-allowed = hand-over-all-allowed twoCells 1 2 cells-allowed .some whole-allowed
 
 pub allowed-as-a-single : allowed (ledger twoCells) (Row.handOverAll 1 2) ≡ true
-allowed-as-a-single = hand-over-all-allowed twoCells 1 2 two-allowed .all 223 single-allowed
+allowed-as-a-single = hand-over-all-allowed twoCells 1 2 cells-allowed .all 223 single-allowed
 
 -- ── 02, L7: old logs ──────────────────────────────────────────────────────────────────────────────────────────────────
 
@@ -124,37 +145,37 @@ old-hand-over : oldRowBytes 258 (Row.handOver 255 254 9) ≡ 3 ∷ 255 ∷ 254 �
 unfolding oldRowBytes
 old-hand-over = refl
 
-old-fits : oldFits (Row.handOver 255 254 9) ≡ true
+hand-over-fits : oldFits (Row.handOver 255 254 9) ≡ true
 unfolding oldFits
-old-fits = refl
+hand-over-fits = refl
 
 pub bytes-of-before : rowBytes 258 (Row.handOver 255 254 9) ≡ 3 ∷ 255 ∷ 254 ∷ 9 ∷ 2 ∷ 1 ∷ 0 ∷ 0 ∷ 0 ∷ 0 ∷ 0 ∷ 0 ∷ 0 ∷ 0 ∷ 0 ∷ 0 ∷ []
 unfolding OldRows
-bytes-of-before = old-rows 258 (Row.handOver 255 254 9) old-fits ∙ old-hand-over
+bytes-of-before = old-rows 258 (Row.handOver 255 254 9) hand-over-fits ∙ old-hand-over
 
 -- a log of two rows
 abbrev oldLog : List Row
 oldLog = Row.begin 1 ∷ Row.commit 1 ∷ []
 
-old-allowed : oldAllowedLog oldLog ≡ true
+two-rows-allowed : oldAllowedLog oldLog ≡ true
 unfolding computes oldFits
-old-allowed = refl
+two-rows-allowed = refl
 
 two-old : OldLog oldLog
 unfolding OldLogs
-two-old = old-logs oldLog old-allowed
+two-old = old-logs oldLog two-rows-allowed
 
-old-bytes : take 32 (oldLogBytes oldLog) ≡
+two-rows-bytes : take 32 (oldLogBytes oldLog) ≡
     1 ∷ 1 ∷ 0 ∷ 0 ∷ 1 ∷ 0 ∷ 0 ∷ 0 ∷ 0 ∷ 0 ∷ 0 ∷ 0 ∷ 0 ∷ 0 ∷ 0 ∷ 0 ∷ 5 ∷ 1 ∷ 0 ∷ 0 ∷ 2 ∷ 0 ∷ 0 ∷ 0 ∷ 0 ∷ 0 ∷ 0 ∷ 0 ∷ 0 ∷ 0 ∷ 0 ∷ 0 ∷ []
 unfolding oldLogBytes oldRowBytes
-old-bytes = refl
+two-rows-bytes = refl
 
 pub old-log-allowed : allowedLog oldLog ≡ true
 old-log-allowed = two-old .allowed
 
 pub old-log-bytes : take 32 (logBytes oldLog) ≡
     1 ∷ 1 ∷ 0 ∷ 0 ∷ 1 ∷ 0 ∷ 0 ∷ 0 ∷ 0 ∷ 0 ∷ 0 ∷ 0 ∷ 0 ∷ 0 ∷ 0 ∷ 0 ∷ 5 ∷ 1 ∷ 0 ∷ 0 ∷ 2 ∷ 0 ∷ 0 ∷ 0 ∷ 0 ∷ 0 ∷ 0 ∷ 0 ∷ 0 ∷ 0 ∷ 0 ∷ 0 ∷ []
-old-log-bytes = ap (take 32) (two-old .bytes) ∙ old-bytes
+old-log-bytes = ap (take 32) (two-old .bytes) ∙ two-rows-bytes
 
 pub old-log-read : readLog (oldLogBytes oldLog) ≡ good oldLog
 old-log-read = two-old .read
@@ -172,8 +193,8 @@ flushed f = opens true f ∷ flushing
 abbrev landed : Fuse → Writes
 landed f = summed (writes zeros formatted (flushed f))
 
-flush-counts : (f : Fuse) → SessionCounts f [] (landed f) (flushesDone zeros formatted (flushed f)) (bookAfter zeros formatted (flushed f))
-flush-counts f = session-counts zeros formatted f flushing sound-formatted (tt, (tt, (tt, tt))) (refl, (refl, (refl, tt)))
+session-of-a-flush : (f : Fuse) → SessionCounts f [] (landed f) (flushesDone zeros formatted (flushed f)) (bookAfter zeros formatted (flushed f))
+session-of-a-flush f = session-counts zeros formatted f flushing sound-formatted (tt, (tt, (tt, tt))) (refl, (refl, (refl, tt)))
 
 rows-2 : 0 + landed (left 3) .rows ≡ 2
 unfolding computes
@@ -196,20 +217,23 @@ unfolding computes
 burnt-out = refl
 
 pub two-rows-stored : length (bookAfter zeros formatted (flushed (left 3)) .stored) ≡ 2
-two-rows-stored = flush-counts (left 3) .rows ∙ rows-2
+two-rows-stored = session-of-a-flush (left 3) .rows ∙ rows-2
 
 pub one-page-counted : landed (left 3) .pages ≡ 1
-one-page-counted = flush-counts (left 3) .pages ∙ one-flush
+one-page-counted = session-of-a-flush (left 3) .pages ∙ one-flush
+
+fuse-counted : (f : Fuse) → Counted f (landed f) (bookAfter zeros formatted (flushed f))
+fuse-counted f = session-of-a-flush f .fuse
 
 left-number : (m n : ℕ) → left m ≡ left n → m ≡ n
 left-number m n e = cc
 
 -- with three writes the fuse holds, and three are counted; with two it burns, and two are
 pub three-counted : together (landed (left 3)) + 0 ≡ 3
-three-counted = sym (left-number 3 _ (rw none-left at (flush-counts (left 3) .fuse .held still-open)))
+three-counted = sym (left-number 3 _ (rw none-left at (fuse-counted (left 3) .held still-open)))
 
 pub two-counted : together (landed (left 2)) ≡ 2
-two-counted = sym (left-number 2 _ (flush-counts (left 2) .fuse .burnt burnt-out))
+two-counted = sym (left-number 2 _ (fuse-counted (left 2) .burnt burnt-out))
 
 -- ── 02, L5: two hand-overs in either order ────────────────────────────────────────────────────────────────────────────
 
@@ -277,9 +301,12 @@ costs rs = Cost rs (reopen none rs .answer) (openingWrites rs (reopen none rs))
 abbrev written : List Row → ℕ
 written rs = openingWrites rs (reopen none rs) .rows
 
-two-cost : costs twoRows
+rows-allowed : allowedLog twoRows ≡ true
 unfolding computes
-two-cost = reopen-cost none twoRows refl
+rows-allowed = refl
+
+two-cost : costs twoRows
+two-cost = reopen-cost none twoRows rows-allowed
 
 two-ready : reopen none twoRows .answer .number ≡ 0
 unfolding computes
@@ -297,14 +324,15 @@ at-most-4094 = two-cost .free
 pub at-most-2048 : written twoRows ≤ 2048
 at-most-2048 = two-cost .worst
 
-pub no-page : openingWrites twoRows (reopen none twoRows) .pages ≡ 0
-no-page = two-cost .pages
+-- whatever counts an opening of these rows gives
+pub no-page-written : (w : Writes) → Cost twoRows (done (pos 2)) w → w .pages ≡ 0
+no-page-written w c = c .pages
 
 pub two-written : written twoRows ≡ 2
 two-written = two-cost .reaches two-ready .1 two-each
 
-pub two-reported : reopen none twoRows .answer .value ≡ pos 2
-two-reported = two-cost .reports two-ready ∙ ap pos two-written
+pub reported-as-written : reopen none twoRows .answer .value ≡ pos (written twoRows)
+reported-as-written = two-cost .reports two-ready
 
 -- of a log with a commit row, which an opening has nothing to write for, ready or not
 abbrev committed : List Row
@@ -358,14 +386,20 @@ commit-alone : allowedLog (Row.commit 1 ∷ []) ≡ false
 unfolding computes
 commit-alone = refl
 
+begin-and-commit : allowedLog oldLog ≡ true
+unfolding computes
+begin-and-commit = refl
+
 -- of any 65,536 numbers
 module _ (bs : List ℕ) (long : length bs ≡ 65536) where
   reading : ReadsExactly bs
   unfolding Demand2Reading
   reading = demand-2-reading bs long
 
-  pub two-rows-read : bs ≡ logBytes oldLog → readLog bs ≡ good oldLog
-  two-rows-read e = reading .reads oldLog .1 (old-log-allowed, e)
+  pub read-as-two-rows : bs ≡ logBytes oldLog → readLog bs ≡ good oldLog
+  read-as-two-rows e =
+      let is : (allowedLog oldLog ≡ true) × (bs ≡ logBytes oldLog) = (begin-and-commit, e) in
+      reading .reads oldLog .1 is
 
   pub bytes-of-two-rows : readLog bs ≡ good oldLog → bs ≡ logBytes oldLog
   bytes-of-two-rows e = reading .reads oldLog .0 e .1
@@ -385,8 +419,8 @@ module _ (bs : List ℕ) (long : length bs ≡ 65536) where
 
   -- row 2 is the first bad one: an allowed log of at most one row has the 16 bytes before it, and no allowed log has its bytes too
   module _ (e : readLog bs ≡ bad 16 2) where
-    pub rows-before : (rs : List Row) × (allowedLog rs ≡ true) × (length rs < 2) × (take 16 (logBytes rs) ≡ take 16 bs)
-    rows-before = let x = reading .refuses 16 2 e .1 in (x .rows, x .before, x .few, x .agrees)
+    pub row-before : (rs : List Row) × (allowedLog rs ≡ true) × (length rs < 2) × (take 16 (logBytes rs) ≡ take 16 bs)
+    row-before = let x = reading .refuses 16 2 e .1 in (x .rows, x .before, x .few, x .agrees)
 
     pub no-log-has-both : (rs : List Row) → allowedLog rs ≡ true → take 32 (logBytes rs) ≡ take 32 bs → ⊥
     no-log-has-both rs al same = reading .refuses 16 2 e .1 .none rs al same
