@@ -6,3 +6,4 @@ pub mod Demand3
 pub mod Swapped
 pub mod Made
 pub mod SwappedMade
+pub mod Survives
