@@ -16,3 +16,4 @@ pub mod Freedom
 pub mod Made
 pub mod SwappedOccurs
 pub mod SwappedMade
+pub mod Survives

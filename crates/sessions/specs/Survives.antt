@@ -23,13 +23,13 @@ use Rattle.sessions.specs.Made.{FormatCall, Made, sessionOf}
 abbrev pub gives : ℕ → ℕ → Call → Bool
 gives v c Call.begin = false
 gives v c (Call.change u k a) = false
-gives v c (Call.handOver g r k) = eqb g v && eqb k c
+gives v c (Call.handOver g r k) = eqb v g && eqb c k
 gives v c (Call.commit u) = false
 gives v c (Call.abort u) = false
 gives v c Call.force = false
 gives v c (Call.flush p) = false
 gives v c (Call.read k) = false
-gives v c (Call.handOverAll g r) = eqb g v
+gives v c (Call.handOverAll g r) = eqb v g
 
 abbrev pub givesIn : ℕ → ℕ → Event → Bool
 givesIn v c (opens lengths f) = false
