@@ -17,3 +17,4 @@ pub mod Made
 pub mod SwappedOccurs
 pub mod SwappedMade
 pub mod Survives
+pub mod EveryListMade

@@ -7,3 +7,4 @@ pub mod Swapped
 pub mod Made
 pub mod SwappedMade
 pub mod Survives
+pub mod EveryList
