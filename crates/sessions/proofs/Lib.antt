@@ -17,4 +17,5 @@ pub mod Made
 pub mod SwappedOccurs
 pub mod SwappedMade
 pub mod Survives
+pub mod UsesOfDemand3
 pub mod EveryListMade
