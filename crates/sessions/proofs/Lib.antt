@@ -17,5 +17,7 @@ pub mod Made
 pub mod SwappedOccurs
 pub mod SwappedMade
 pub mod Survives
+pub mod UsesOfDemand1
 pub mod UsesOfDemand3
+pub mod UsesOfDemand2
 pub mod EveryListMade

@@ -77,13 +77,13 @@ abbrev pub handed : Change
 handed = record { row = 3; maker = 1; cell = 0; amount = negsuc 199; holder = 2; handed = true; scope = 3 }
 
 -- its rows: two begins, then the others
-abbrev begun : List Row
+abbrev pub begun : List Row
 begun = Row.begin 1 ∷ Row.begin 2 ∷ []
 
-abbrev others : List Row
+abbrev pub others : List Row
 others = Row.change 1 0 (negsuc 199) ∷ Row.handOver 1 2 0 ∷ Row.abort 1 ∷ Row.commit 2 ∷ []
 
-abbrev keptRows : List Row
+abbrev pub keptRows : List Row
 keptRows = begun ++ others
 
 abbrev keptCounts : List Writes
@@ -91,15 +91,15 @@ keptCounts = map rowsStored (0 ∷ 1 ∷ 1 ∷ 0 ∷ 0 ∷ 0 ∷ 4 ∷ 0 ∷ 0 �
 
 -- session 1 with fuse 4: begin, begin, visit 1 adds -200 to cell 0, its page is flushed, visit 1 hands the cell to 2, abort 1, commit 2; session 2 with fuse 3:
 -- read 223
-abbrev cutEvents : List Event
+abbrev pub cutEvents : List Event
 cutEvents =
     opens true (left 4) ∷ calls true Call.begin ∷ calls true Call.begin ∷ calls true (Call.change 1 0 (negsuc 199)) ∷ calls true (Call.flush 0) ∷
     calls true (Call.handOver 1 2 0) ∷ calls true (Call.abort 1) ∷ calls true (Call.commit 2) ∷ opens true (left 3) ∷ calls true (Call.read 223) ∷ []
 
-abbrev cutRows : List Row
+abbrev pub cutRows : List Row
 cutRows = begun ++ (Row.change 1 0 (negsuc 199) ∷ [])
 
-abbrev endRows : List Row
+abbrev pub endRows : List Row
 endRows = cutRows ++ (Row.undo 1 0 3 (negsuc 199) ∷ Row.abort 2 ∷ Row.abort 1 ∷ [])
 
 abbrev cutCounts : List Writes
