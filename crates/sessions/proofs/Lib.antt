@@ -20,4 +20,5 @@ pub mod Survives
 pub mod UsesOfDemand1
 pub mod UsesOfDemand3
 pub mod UsesOfDemand2
+pub mod UsesOfSurvives
 pub mod EveryListMade

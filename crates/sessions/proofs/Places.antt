@@ -130,7 +130,7 @@ answers-at (x ∷ xs) ys (x′ ∷ xs′) ys′ s s′ n e = answers-at xs ys xs
 pub no-events : {x : Event} {xs : List Event} {X : Type 0} → Path (List Event) [] (x ∷ xs) → X
 no-events e = let z : _≡_ {A = ℕ} 0 1 = cc e in absurd (omega arith)
 
-no-opening : {l l′ : Bool} {f : Fuse} {k : Call} {X : Type 0} → Path Event (opens l f) (calls l′ k) → X
+pub no-opening : {l l′ : Bool} {f : Fuse} {k : Call} {X : Type 0} → Path Event (opens l f) (calls l′ k) → X
 no-opening e = let z : _≡_ {A = ℕ} 0 1 = cc e in absurd (omega arith)
 
 -- the events of steps with two hand-overs that follow one another

@@ -34,31 +34,31 @@ use Rattle.sessions.specs.Demand3.{bookOf, logOf, RowIs, Lasts, Begun, W
 -- ── Places of a list ──────────────────────────────────────────────────────────────────────────────────────────────────
 
 -- event n, its call, its fuse and whether its buffers have 01's lengths
-abbrev nth : List Event → ℕ → Event
+abbrev pub nth : List Event → ℕ → Event
 nth es n = getD es n (calls false Call.force)
 
-abbrev askedIn : Event → Call
+abbrev pub askedIn : Event → Call
 askedIn (opens lengths f) = Call.force
 askedIn (calls lengths k) = k
 
-abbrev fuseIn : Event → Fuse
+abbrev pub fuseIn : Event → Fuse
 fuseIn (opens lengths f) = f
 fuseIn (calls lengths k) = left 0
 
-abbrev lengthsIn : Event → Bool
+abbrev pub lengthsIn : Event → Bool
 lengthsIn (opens lengths f) = lengths
 lengthsIn (calls lengths k) = lengths
 
-abbrev numberAt : List Answer → ℕ → ℕ
+abbrev pub numberAt : List Answer → ℕ → ℕ
 numberAt xs n = getD xs n (refusedBy 1) .number
 
-abbrev valueAt : List Answer → ℕ → ℤ
+abbrev pub valueAt : List Answer → ℕ → ℤ
 valueAt xs n = getD xs n (refusedBy 1) .value
 
-abbrev pagesAt : List Writes → ℕ → ℕ
+abbrev pub pagesAt : List Writes → ℕ → ℕ
 pagesAt ws n = getD ws n (record { rows = 0; pages = 0 }) .pages
 
-abbrev rowsStored : ℕ → Writes
+abbrev pub rowsStored : ℕ → Writes
 rowsStored n = record { rows = n; pages = 0 }
 
 number-of : {n m : ℕ} → pos n ≡ pos m → n ≡ m
@@ -86,7 +86,7 @@ others = Row.change 1 0 (negsuc 199) ∷ Row.handOver 1 2 0 ∷ Row.abort 1 ∷ 
 abbrev pub keptRows : List Row
 keptRows = begun ++ others
 
-abbrev keptCounts : List Writes
+abbrev pub keptCounts : List Writes
 keptCounts = map rowsStored (0 ∷ 1 ∷ 1 ∷ 0 ∷ 0 ∷ 0 ∷ 4 ∷ 0 ∷ 0 ∷ [])
 
 -- session 1 with fuse 4: begin, begin, visit 1 adds -200 to cell 0, its page is flushed, visit 1 hands the cell to 2, abort 1, commit 2; session 2 with fuse 3:
@@ -102,16 +102,16 @@ cutRows = begun ++ (Row.change 1 0 (negsuc 199) ∷ [])
 abbrev pub endRows : List Row
 endRows = cutRows ++ (Row.undo 1 0 3 (negsuc 199) ∷ Row.abort 2 ∷ Row.abort 1 ∷ [])
 
-abbrev cutCounts : List Writes
+abbrev pub cutCounts : List Writes
 cutCounts = map rowsStored (0 ∷ 1 ∷ 1 ∷ 0 ∷ []) ++ (record { rows = 1; pages = 1 } ∷ map rowsStored (0 ∷ 0 ∷ 0 ∷ 3 ∷ 0 ∷ []))
 
 module _ (cells : ℕ → ℤ) where
-  abbrev keptAnswers : List Answer
+  abbrev pub keptAnswers : List Answer
   keptAnswers =
       done (pos 0) ∷ done (pos 1) ∷ done (pos 2) ∷ done (pos 3) ∷ done (pos 4) ∷ done (pos 5) ∷ done (pos 6) ∷ done (pos 0) ∷
       done (cells 0 +ℤ negsuc 199) ∷ []
 
-  abbrev cutAnswers : List Answer
+  abbrev pub cutAnswers : List Answer
   cutAnswers =
       done (pos 0) ∷ done (pos 1) ∷ done (pos 2) ∷ done (pos 3) ∷ done (pos 0) ∷ done (pos 4) ∷ done (pos 5) ∷ refusedBy 5 ∷ done (pos 3) ∷
       done (cells 223 +ℤ pos 0) ∷ []
@@ -180,18 +180,18 @@ undone-once = (here, refl, refl)
 -- ── 01's example, with fuse 6 ─────────────────────────────────────────────────────────────────────────────────────────
 
 module _ (cells : ℕ → ℤ) (own : World) (o : Opening) (one two ch ho ab co : Called) (o′ : Opening) (rd : Called) where
-  abbrev kept : List Step
+  abbrev pub kept : List Step
   kept = opened o ∷ called one ∷ called two ∷ called ch ∷ called ho ∷ called ab ∷ called co ∷ opened o′ ∷ called rd ∷ []
 
   module _ (are : map eventOf kept ≡ example (left 6)) (h : Holds cells own kept) where
-    event : (n : ℕ) → nth (map eventOf kept) n ≡ nth (example (left 6)) n
+    pub event : (n : ℕ) → nth (map eventOf kept) n ≡ nth (example (left 6)) n
     event n = ap (λ (es : List Event). nth es n) are
 
     -- `answers`
     pub kept-answers : map answerOf kept ≡ keptAnswers cells
     kept-answers = h .answers ∙ ap (answers cells formatted) are ∙ answers-kept cells
 
-    number : (n : ℕ) → numberAt (map answerOf kept) n ≡ numberAt (keptAnswers cells) n
+    pub number : (n : ℕ) → numberAt (map answerOf kept) n ≡ numberAt (keptAnswers cells) n
     number n = ap (λ (xs : List Answer). numberAt xs n) kept-answers
 
     -- `log`: after the second begin, and in the end
@@ -201,7 +201,7 @@ module _ (cells : ℕ → ℤ) (own : World) (o : Opening) (one two ch ho ab co 
     log-ready : logOf cells (take 8 kept) ≡ keptRows
     log-ready = ap (λ (es : List Event). bookAfter cells formatted (take 8 es) .stored) are ∙ stored-kept cells .2
 
-    log-end : logOf cells kept ≡ keptRows
+    pub log-end : logOf cells kept ≡ keptRows
     log-end = ap (λ (es : List Event). bookAfter cells formatted es .stored) are ∙ stored-kept cells .3
 
     pub kept-log : (worldAfterAll own (take 3 kept) .log ≡ logBytes begun) × (worldAfterAll own kept .log ≡ logBytes keptRows)
@@ -309,7 +309,7 @@ module _ (cells : ℕ → ℤ) (own : World) (o : Opening) (one two ch ho ab co 
 -- ── The page flushed, the commit cut ──────────────────────────────────────────────────────────────────────────────────
 
 module _ (cells : ℕ → ℤ) (own : World) (o : Opening) (one two ch fl ho ab co : Called) (o′ : Opening) (rd : Called) where
-  abbrev cut : List Step
+  abbrev pub cut : List Step
   cut = opened o ∷ called one ∷ called two ∷ called ch ∷ called fl ∷ called ho ∷ called ab ∷ called co ∷ opened o′ ∷ called rd ∷ []
 
   module _ (are : map eventOf cut ≡ cutEvents) (h : Holds cells own cut) where
