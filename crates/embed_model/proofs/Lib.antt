@@ -13,3 +13,4 @@ pub mod Packed
 pub mod BookAnswers
 pub mod StepsMade
 pub mod EveryList
+pub mod TypesOfC
