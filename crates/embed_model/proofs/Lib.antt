@@ -14,3 +14,4 @@ pub mod BookAnswers
 pub mod StepsMade
 pub mod EveryList
 pub mod TypesOfC
+pub mod ContractsUsed
