@@ -15,3 +15,4 @@ pub mod StepsMade
 pub mod EveryList
 pub mod TypesOfC
 pub mod ContractsUsed
+pub mod ExampleOfC
