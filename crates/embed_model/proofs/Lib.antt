@@ -16,3 +16,4 @@ pub mod EveryList
 pub mod TypesOfC
 pub mod ContractsUsed
 pub mod ExampleOfC
+pub mod SwappedOccurs

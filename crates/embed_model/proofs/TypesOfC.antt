@@ -2,8 +2,8 @@
 use Prim.Native.Nat.{ℕ, _≤_, _<_}
 use native.Mathlib.Omega.{arith}
 use mathlib.Core.Bool.{true}
-use mathlib.Core.Path.{_≡_, refl}
-use mathlib.Core.List.{List, [], _∷_}
+use mathlib.Core.Path.{_≡_, refl, subst}
+use mathlib.Core.List.{List, [], _∷_, _++_}
 use lib.IntN.{ℤ, pos, negsuc}
 use borrow.Author.Tests.{le-leb}
 use Rattle.book.specs.Calls.{Call}
@@ -11,8 +11,8 @@ use Rattle.book.specs.Power.{none, left}
 use Rattle.book.specs.Events.{Event}
 use Rattle.state.specs.World.{fuseOfNumber}
 use Rattle.embed_model.specs.Arrays.{Arrays, arrays}
-use Rattle.embed_model.specs.Host.{OpeningMade, CallMade, opens, calls}
-use Rattle.embed_model.specs.EveryList.{Below, ArraysOfC, FuseOfC, CallOfC, MadeOfC, StepOfC, EventsOfC}
+use Rattle.embed_model.specs.Host.{OpeningMade, CallMade, StepMade, opens, calls, stepsMade}
+use Rattle.embed_model.specs.EveryList.{Below, ArraysOfC, FuseOfC, CallOfC, MadeOfC, StepOfC, StepsOfC, EventsOfC, SessionsOfC}
 
 -- ── Calls ─────────────────────────────────────────────────────────────────────────────────────────────────────────────
 
@@ -89,3 +89,12 @@ opening-of-c o t = (omega arith, t .1)
 
 pub call-of-c : (c : CallMade) → StepOfC (calls c) → CallOfC (c .call) × MadeOfC (c .given) (c .number) (c .leaves)
 call-of-c c t = t
+
+-- of any step of the sessions that `EveryListOfC` gives
+pub each-step-of-c : (own : Arrays) (es : List Event) (l : SessionsOfC own es) (xs ys : List StepMade) (s : StepMade)
+    → stepsMade (l .sessions) ≡ xs ++ (s ∷ ys) → StepOfC s
+each-step-of-c own es l xs ys s e = go xs (subst StepsOfC e (l .typed))
+  where
+    go : (xs : List StepMade) → StepsOfC (xs ++ (s ∷ ys)) → StepOfC s
+    go [] t = t .0
+    go (x ∷ xs) t = go xs (t .1)
