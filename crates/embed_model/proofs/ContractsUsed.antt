@@ -5,13 +5,13 @@ use native.Mathlib.Omega.{arith}
 use mathlib.Core.Bool.{true}
 use mathlib.Core.Path.{_≡_, refl, ap, sym, _∙_}
 use mathlib.Core.Logic.{_≢_}
-use mathlib.Core.List.{List, [], _∷_, _++_}
+use mathlib.Core.List.{List, [], _∷_}
 use lib.ListN.{length, getD, replicate}
 use lib.IntN.{pos}
 use Rattle.book.specs.Rows.{Row}
 use Rattle.book.specs.Calls.{Call}
 use Rattle.book.specs.Book.{Answer, answer, done, refusedBy}
-use Rattle.book.specs.Writes.{Writes, noWrites}
+use Rattle.book.specs.Writes.{noWrites}
 use Rattle.book.specs.LogBytes.{logBytes}
 use Rattle.book.proofs.Lists.{clash}
 use Rattle.book.proofs.LogBytes.{log-long, log-good}
@@ -23,7 +23,7 @@ use Rattle.recovery_model.specs.PageAlone.{RedoneAlone, redoneAlone, PageAlone}
 use Rattle.recovery_model.proofs.PageAlone.{page-alone}
 use Rattle.embed_model.specs.Arrays.{Arrays, arrays, worldIn, RamLengths, Zero}
 use Rattle.embed_model.specs.Packed.{answerIn, writesIn}
-use Rattle.embed_model.specs.Called.{answeredIn, FormatsOfC, OpensOfC, CallsOfC}
+use Rattle.embed_model.specs.Called.{FormatsOfC, OpensOfC, CallsOfC}
 use Rattle.embed_model.specs.PageOfC.{RedoesOfC}
 
 -- ── RAM ───────────────────────────────────────────────────────────────────────────────────────────────────────────────

@@ -4,13 +4,13 @@ use Prim.Native.Nat.{ℕ}
 use native.Mathlib.Omega.{arith}
 use mathlib.Core.Bool.{true}
 use mathlib.Core.Path.{_≡_, refl, ap, sym, _∙_}
-use mathlib.Core.List.{List, [], _∷_, _++_, map, append-nil}
+use mathlib.Core.List.{List, [], _∷_, map, append-nil}
 use lib.ListN.{length, replicate}
 use lib.IntN.{ℤ, pos, negsuc}
 use borrow.Author.Tests.{eq-eqb}
 use Rattle.book.specs.Lists.{foldl}
 use Rattle.book.specs.Rows.{Row}
-use Rattle.book.specs.Power.{Fuse, none, left, formatted}
+use Rattle.book.specs.Power.{Fuse, left, formatted}
 use Rattle.book.specs.Book.{done, refusedBy}
 use Rattle.book.specs.Events.{Event, answers, bookAfter}
 use Rattle.book.specs.Writes.{Writes}
@@ -19,9 +19,9 @@ use Rattle.book.proofs.Example.{example}
 use Rattle.book.proofs.WorkedExamples.{computes}
 use Rattle.state.specs.World.{World, rightLengths}
 use Rattle.state.specs.Contracts.{cellsOf}
-use Rattle.sessions.specs.Host.{Step, steps, answerOf, writesOf, eventOf, worldAfterAll}
+use Rattle.sessions.specs.Host.{steps, answerOf, writesOf, eventOf, worldAfterAll}
 use Rattle.sessions.specs.Demand3.{Holds}
-use Rattle.embed_model.specs.Arrays.{Arrays, worldIn, RamLengths}
+use Rattle.embed_model.specs.Arrays.{Arrays, worldIn}
 use Rattle.embed_model.specs.Packed.{answerIn}
 use Rattle.embed_model.specs.Host.{FormatMade, SessionMade, StepMade, stepsMade, sessionOfC, stepOf, afterStep, HostOfC}
 use Rattle.embed_model.specs.Demand.{Demand3OfC}
@@ -84,6 +84,6 @@ module _ (format : FormatMade) (cells : format .cells ≡ noGrams) (zero : answe
       rw e at (holds .answers),
       rw e at (holds .counts),
       sym (ap (λ (w : World). w .log) (after-worlds (format .leaves) (stepsMade ss))) ∙ rw (same-steps ss)
-      (holds .log (steps (map sessionOfC ss)) [] (sym (append-nil _)) ∙
-      ap (λ (es : List Event). logBytes (bookAfter (cellsOf noGrams) formatted es .stored)) e),
+          (holds .log (steps (map sessionOfC ss)) [] (sym (append-nil _)) ∙
+          ap (λ (es : List Event). logBytes (bookAfter (cellsOf noGrams) formatted es .stored)) e),
     )

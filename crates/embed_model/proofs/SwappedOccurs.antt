@@ -1,10 +1,8 @@
 -- 02, L5 of the functions for C is not empty: the worked example of two hand-overs occurs in both orders, and both give the same.
-use Prim.Native.Nat.{ℕ, _<_}
 use native.Mathlib.Omega.{arith}
-use mathlib.Core.Path.{_≡_, _∙_}
+use mathlib.Core.Path.{_≡_}
 use mathlib.Core.List.{List, [], _∷_, _++_, map}
 use lib.ListN.{length}
-use Rattle.book.specs.Limits.{cellLimit}
 use Rattle.book.specs.Power.{left}
 use Rattle.book.specs.Events.{Event}
 use Rattle.book.specs.Pages.{cellOf}
@@ -17,7 +15,7 @@ use Rattle.sessions.proofs.Places.{two-hand-overs}
 use Rattle.sessions.proofs.Swapped.{accepted-by-book}
 use Rattle.embed_model.specs.Arrays.{worldIn}
 use Rattle.embed_model.specs.Packed.{answerIn}
-use Rattle.embed_model.specs.Host.{FormatMade, SessionMade, sessionOfC}
+use Rattle.embed_model.specs.Host.{FormatMade, sessionOfC}
 use Rattle.embed_model.specs.Demand.{Demand3OfC}
 use Rattle.embed_model.specs.Swapped.{SwappedOfC}
 use Rattle.embed_model.specs.EveryList.{SessionsOfC, EveryListOfC}

@@ -1,5 +1,5 @@
 -- The types of the functions for C (specs/EveryList) at the ends of their ranges: the last number that C can hand over, and the first that it cannot.
-use Prim.Native.Nat.{ℕ, _≤_, _<_}
+use Prim.Native.Nat.{ℕ, _≤_}
 use native.Mathlib.Omega.{arith}
 use mathlib.Core.Bool.{true}
 use mathlib.Core.Path.{_≡_, refl, subst}
