@@ -60,9 +60,9 @@ module _ (format : FormatMade) (cells : format .cells ≡ noGrams) (zero : answe
   example-occurs-of-c f t = every-list-of-c format zero true f _ (t, omega arith)
 
   module _ (ss : List SessionMade) (host : HostOfC (format .leaves) true (stepsMade ss)) where
-    holds : Holds (cellsOf noGrams) (worldIn (format .leaves)) (steps (map sessionOfC ss))
+    pub example-holds-of-c : Holds (cellsOf noGrams) (worldIn (format .leaves)) (steps (map sessionOfC ss))
     unfolding Demand3OfC
-    holds = rw cells at (demand-3-of-c format zero ss host)
+    example-holds-of-c = rw cells at (demand-3-of-c format zero ss host)
 
     -- the fourth write does not land: the commit is refused by 5, and the opening takes the change back
     pub example-of-c-cut : map eventOf (steps (map sessionOfC ss)) ≡ example (left 3)
@@ -70,7 +70,7 @@ module _ (format : FormatMade) (cells : format .cells ≡ noGrams) (zero : answe
         done (pos 0) ∷ done (pos 1) ∷ done (pos 2) ∷ done (pos 3) ∷ done (pos 4) ∷ done (pos 5) ∷ refusedBy 5 ∷ done (pos 3) ∷ done (pos 0) ∷ []) ×
         (map writesOf (steps (map sessionOfC ss)) ≡ map rowsStored (0 ∷ 1 ∷ 1 ∷ 0 ∷ 0 ∷ 0 ∷ 1 ∷ 3 ∷ 0 ∷ []))
     unfolding computes
-    example-of-c-cut e = (rw e at (holds .answers), rw e at (holds .counts))
+    example-of-c-cut e = (rw e at (example-holds-of-c .answers), rw e at (example-holds-of-c .counts))
 
     -- all six land: the change is kept; the log is the host's array in the end
     pub example-of-c-kept : map eventOf (steps (map sessionOfC ss)) ≡ example (left 6)
@@ -81,9 +81,9 @@ module _ (format : FormatMade) (cells : format .cells ≡ noGrams) (zero : answe
         logBytes (Row.begin 1 ∷ Row.begin 2 ∷ Row.change 1 0 (negsuc 199) ∷ Row.handOver 1 2 0 ∷ Row.abort 1 ∷ Row.commit 2 ∷ []))
     unfolding worldIn computes
     example-of-c-kept e = (
-      rw e at (holds .answers),
-      rw e at (holds .counts),
+      rw e at (example-holds-of-c .answers),
+      rw e at (example-holds-of-c .counts),
       sym (ap (λ (w : World). w .log) (after-worlds (format .leaves) (stepsMade ss))) ∙ rw (same-steps ss)
-          (holds .log (steps (map sessionOfC ss)) [] (sym (append-nil _)) ∙
+          (example-holds-of-c .log (steps (map sessionOfC ss)) [] (sym (append-nil _)) ∙
           ap (λ (es : List Event). logBytes (bookAfter (cellsOf noGrams) formatted es .stored)) e),
     )

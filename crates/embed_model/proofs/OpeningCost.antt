@@ -33,13 +33,13 @@ module _ (n : ℕ) (small : n ≤ 2048) (fuse : ℕ) (given : Arrays) (r : ℕ) 
   its : Costliest n (costliest n)
   its = costliest-log n small
 
-  costs : CostOfOpening (fuseOfNumber fuse) (worldIn given) (costliest n) (answeredIn r leaves)
+  pub costliest-costs-of-c : CostOfOpening (fuseOfNumber fuse) (worldIn given) (costliest n) (answeredIn r leaves)
   unfolding CostOfOpenOfC worldIn
-  costs = cost-of-open-of-c fuse given (costliest n) r leaves (its .allowed, log) opens
+  costliest-costs-of-c = cost-of-open-of-c fuse given (costliest n) r leaves (its .allowed, log) opens
 
   -- whatever fuse, RAM and charts it is given: at most n rows, and no page
   pub costliest-at-most-of-c : (writesIn r .rows ≤ n) × (writesIn r .rows ≤ 2048) × (writesIn r .pages ≡ 0)
-  costliest-at-most-of-c = let long = its .long in let most = costs .cost .most in (omega arith, costs .cost .worst, costs .cost .pages)
+  costliest-at-most-of-c = let long = its .long in let most = costliest-costs-of-c .cost .most in (omega arith, costliest-costs-of-c .cost .worst, costliest-costs-of-c .cost .pages)
 
   module _ (right : rightLengths (worldIn given) ≡ true) (pages : badPage (costliest n) (worldIn given .charts) ≡ 32) where
     holds : (m : ℕ) → m ≤ 2048 → fuse ≡ m → PowerHolds (fuseOfNumber fuse) m
@@ -50,11 +50,11 @@ module _ (n : ℕ) (small : n ≤ 2048) (fuse : ℕ) (given : Arrays) (r : ℕ) 
     costliest-reached-of-c e =
         let long = its .long in
         let power = holds n small e in
-        let zero : answerIn r .number ≡ 0 = costs .ready n (inl (omega arith)) (record { lengths = right; pages = pages; power = power }) in
+        let zero : answerIn r .number ≡ 0 = costliest-costs-of-c .ready n (inl (omega arith)) (record { lengths = right; pages = pages; power = power }) in
         let rows : writesIn r .rows ≡ n =
-        costs .reaches (record { lengths = right; pages = pages; power = subst (PowerHolds (fuseOfNumber fuse)) (sym long) power }) .1 (its .each) ∙ long in
-        (ap₂ answer zero (costs .cost .reports zero ∙ ap pos rows), ap₂ (λ (a b : ℕ). record { rows = a; pages = b }) rows (costs .cost .pages))
+        costliest-costs-of-c .reaches (record { lengths = right; pages = pages; power = subst (PowerHolds (fuseOfNumber fuse)) (sym long) power }) .1 (its .each) ∙ long in
+        (ap₂ answer zero (costliest-costs-of-c .cost .reports zero ∙ ap pos rows), ap₂ (λ (a b : ℕ). record { rows = a; pages = b }) rows (costliest-costs-of-c .cost .pages))
 
     -- and it ends ready with a fuse of 2,048 writes, whatever n is
     pub costliest-ready-of-c : fuse ≡ 2048 → answerIn r .number ≡ 0
-    costliest-ready-of-c e = costs .ready-any (record { lengths = right; pages = pages; power = holds 2048 (omega arith) e })
+    costliest-ready-of-c e = costliest-costs-of-c .ready-any (record { lengths = right; pages = pages; power = holds 2048 (omega arith) e })

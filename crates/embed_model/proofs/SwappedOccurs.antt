@@ -40,23 +40,24 @@ module _ (format : FormatMade) (zero : answerIn (format .number) .number ≡ 0) 
     abbrev ss′ : List Step
     ss′ = steps (map sessionOfC (l′ .sessions))
 
-    accepted : Accepted (threeVisits (left 6)) ofCell0 ofCell7 forced ss
+    pub accepted-of-c : Accepted (threeVisits (left 6)) ofCell0 ofCell7 forced ss
     unfolding Demand3OfC
-    accepted =
+    accepted-of-c =
         accepted-by-book (cellsOf (format .cells)) (threeVisits (left 6)) ofCell0 ofCell7 forced ss
         (two-hand-overs (threeVisits (left 6)) ofCell0 ofCell7 forced ss (l .events)) (demand-3-of-c format zero (l .sessions) (l .host) .answers)
         (accepted-in-order (cellsOf (format .cells)) 3)
 
-    alike : SameResults (worldIn (format .leaves)) (threeVisits (left 6)) ofCell0 ofCell7 forced ss ss′
+    alike-of-c : Accepted (threeVisits (left 6)) ofCell0 ofCell7 forced ss
+        → SameResults (worldIn (format .leaves)) (threeVisits (left 6)) ofCell0 ofCell7 forced ss ss′
     unfolding SwappedOfC
-    alike = hand-overs-swapped-of-c format zero (l .sessions) (l′ .sessions) (l .host) (l′ .host) (threeVisits (left 6)) ofCell0 ofCell7 forced accepted (l′ .events)
+    alike-of-c a = hand-overs-swapped-of-c format zero (l .sessions) (l′ .sessions) (l .host) (l′ .host) (threeVisits (left 6)) ofCell0 ofCell7 forced a (l′ .events)
 
     -- refusal numbers and values, rows and pages; and each cell of the copy after the same ready opening
     pub same-results-of-c : (map answerOf ss′ ≡ map answerOf ss) × (map writesOf ss′ ≡ map writesOf ss)
-    same-results-of-c = (alike .answers, alike .counts)
+    same-results-of-c = (alike-of-c accepted-of-c .answers, alike-of-c accepted-of-c .counts)
 
     pub same-cells-of-c : (xs ys xs′ ys′ : List Step) (o o′ : Opening) → ss ≡ xs ++ (opened o ∷ ys) → ss′ ≡ xs′ ++ (opened o′ ∷ ys′) → length xs′ ≡ length xs
         → o .result .answer .number ≡ 0
         → cellOf (worldAfterAll (worldIn (format .leaves)) (xs′ ++ (opened o′ ∷ [])) .copy) 7
         ≡ cellOf (worldAfterAll (worldIn (format .leaves)) (xs ++ (opened o ∷ [])) .copy) 7
-    same-cells-of-c xs ys xs′ ys′ o o′ e e′ n r = alike .cells xs ys xs′ ys′ o o′ e e′ n r 7 (omega arith)
+    same-cells-of-c xs ys xs′ ys′ o o′ e e′ n r = alike-of-c accepted-of-c .cells xs ys xs′ ys′ o o′ e e′ n r 7 (omega arith)

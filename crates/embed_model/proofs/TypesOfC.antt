@@ -3,7 +3,7 @@ use Prim.Native.Nat.{ℕ, _≤_}
 use native.Mathlib.Omega.{arith}
 use mathlib.Core.Bool.{true}
 use mathlib.Core.Path.{_≡_, refl, subst}
-use mathlib.Core.List.{List, [], _∷_, _++_}
+use mathlib.Core.List.{List, [], _∷_, _++_, map}
 use lib.IntN.{ℤ, pos, negsuc}
 use borrow.Author.Tests.{le-leb}
 use Rattle.book.specs.Calls.{Call}
@@ -16,22 +16,34 @@ use Rattle.embed_model.specs.EveryList.{Below, ArraysOfC, FuseOfC, CallO
 
 -- ── Calls ─────────────────────────────────────────────────────────────────────────────────────────────────────────────
 
--- every call, with these visits, this cell or page, and this amount
-abbrev every : ℕ → ℕ → ℕ → ℤ → List Event
-every v w c a =
-    Event.calls true Call.begin ∷ Event.calls true (Call.change v c a) ∷ Event.calls true (Call.handOver v w c) ∷ Event.calls true (Call.commit v) ∷
-    Event.calls true (Call.abort v) ∷ Event.calls true Call.force ∷ Event.calls true (Call.flush c) ∷ Event.calls true (Call.read c) ∷
-    Event.calls true (Call.handOverAll v w) ∷ []
+-- C has each of these calls
+abbrev OfC : List Call → Type 0
+OfC ks = EventsOfC (map (Event.calls true) ks)
 
-pub highest-arguments : EventsOfC (every 65535 65535 255 (pos 32767))
+-- every call, with these visits, this cell or page, and this amount
+abbrev every : ℕ → ℕ → ℕ → ℤ → List Call
+every v w c a =
+    Call.begin ∷ Call.change v c a ∷ Call.handOver v w c ∷ Call.commit v ∷ Call.abort v ∷ Call.force ∷ Call.flush c ∷ Call.read c ∷ Call.handOverAll v w ∷ []
+
+pub highest-arguments : OfC (every 65535 65535 255 (pos 32767))
 highest-arguments = omega arith
 
-pub lowest-arguments : EventsOfC (every 0 0 0 (negsuc 32767))
+pub lowest-arguments : OfC (every 0 0 0 (negsuc 32767))
 lowest-arguments = omega arith
 
--- and all between
-pub all-arguments : (v w c a : ℕ) → v ≤ 65535 → w ≤ 65535 → c ≤ 255 → a ≤ 32767 → EventsOfC (every v w c (pos a)) × EventsOfC (every v w c (negsuc a))
-all-arguments v w c a p q r s = rw (le-leb a 32767 s) (omega arith)
+-- and all between: visits of 16 bits, cells and pages of 8, amounts from -32,768 to 32,767
+pub visits-of-c : (v w : ℕ) → v ≤ 65535 → w ≤ 65535 →
+    OfC (Call.change v 0 (pos 0) ∷ Call.handOver v w 0 ∷ Call.commit v ∷ Call.abort v ∷ Call.handOverAll v w ∷ [])
+visits-of-c v w p q = omega arith
+
+pub cells-of-c : (c : ℕ) → c ≤ 255 → OfC (Call.change 0 c (pos 0) ∷ Call.handOver 0 0 c ∷ Call.read c ∷ [])
+cells-of-c c p = omega arith
+
+pub pages-of-c : (p : ℕ) → p ≤ 255 → OfC (Call.flush p ∷ [])
+pages-of-c p q = omega arith
+
+pub amounts-of-c : (a : ℕ) → a ≤ 32767 → OfC (Call.change 0 0 (pos a) ∷ Call.change 0 0 (negsuc a) ∷ [])
+amounts-of-c a p = rw (le-leb a 32767 p) (omega arith)
 
 -- C has no such call
 abbrev NotOfC : List Call → Type 0
