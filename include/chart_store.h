@@ -16,18 +16,20 @@
  *   - The pointers are not null, are aligned as their types ask, and point to as many bytes as their types and the lengths say.
  *   - RAM, log, charts, the cells of a format and a page lent alone do not overlap.
  *   - Two calls on the same store do not run at the same time, not even in an interrupt.
- *   - Between two calls it leaves RAM, log and charts alone. If it does not, each call still ends with an answer, but the charts may be wrong.
+ *   - Between two calls it leaves RAM, log and charts alone. If it does not, each call still ends with an answer, but what it stores may be wrong.
+ *   - The stack has room for a call: see below.
  *   - The memory of log and charts stores as is said next.
  *
  * Nothing else is asked: a log, charts, cells or a page of another length are refused (CHART_WRONG_LENGTH), and no argument and no contents of RAM, log,
- * charts and page can make a call trap, run on or write elsewhere. A refused call changes no byte, but for the calls in which the power fails (CHART_CLOSED)
- * and the openings that reject the store (CHART_WRONG_BYTES, CHART_BREAKS_RULE, CHART_OVER_LIMIT, CHART_BAD_PAGE): they leave every byte of RAM 0.
+ * charts and page can make a call trap, run on or write elsewhere. A refused call changes no byte, with two exceptions, which leave every byte of RAM 0:
+ * an opening that rejects the store (CHART_WRONG_BYTES, CHART_BREAKS_RULE, CHART_OVER_LIMIT, CHART_BAD_PAGE), and a call or an opening that closes the store
+ * (CHART_CLOSED, where the power fails or the log is full). What the latter stored before is in the log.
  *
  * What the memory of log and charts must do
  *
- * A call writes one row (16 bytes) or one page (32 bytes) of the stored memory at a time, in the order that write-ahead logging needs. If the power fails
- * at any point between two of these writes, chart_open brings the store back: every committed change is in the charts, every other one is undone. That
- * supposes of the memory:
+ * A call other than a format writes one row (16 bytes) or one page (32 bytes) of the stored memory at a time, in the order that write-ahead logging needs. If
+ * the power fails at any point between two of these writes, chart_open brings the store back: every change whose holder has a commit row in the log is there,
+ * every other one is undone. That supposes of the memory:
  *
  *   Each row and each page is stored whole or not at all, and in the order in which the call writes them.
  *
@@ -41,7 +43,8 @@
  *     middle of a call (watchdog, detector, debugger) counts as a power failure, and may not fall inside a row or a page either.
  *
  * Where the part cannot store 16 or 32 bytes as one, as on a bus of 32 bits, it takes hold-up energy for the few microseconds of one row or page, and a
- * processor that is not stopped inside one: for instance, after the warning the host starts no further call, and the one that runs returns on the capacitor.
+ * processor that is not stopped inside one. For instance, after the warning the host starts no further call, and the one that runs returns on the capacitor,
+ * which then has to last for the longest call: docs/FORMAT.md has the rows that each call stores.
  * Without that such a part must not be used: a page that is torn between its mark and its cells is not seen by the check of an opening, and a committed
  * change is then missing or counted twice; and a commit row of a visit above 255 that is torn before its byte 10 may commit another visit.
  *
@@ -52,8 +55,16 @@
  * the proof, and was tried on a model of the processor. The calls use the stack only. How much of it was measured, on x86-64 (folder `bench`) and on the model
  * (folder `tools/unit`), and is not proved.
  *
- * The log is not emptied: it takes 4,096 rows, and each visit takes two of them at least. When CHART_NO_ROOM comes, the host ends all visits, reads the cells
- * and formats the store with them; during the format the power must hold.
+ * When the log is full
+ *
+ * The log is not emptied: it takes 4,096 rows, and each visit takes two of them at least. When CHART_NO_ROOM comes, the host ends all visits, for which there
+ * is always room, reads the cells, and formats the store with them. It sees to three things:
+ *
+ *   - It keeps the values that it read in other memory that keeps its bytes without power, until the format has answered done. During the format the power
+ *     must hold; if it fails, log and charts are lost, and the store has to be formatted again, with the values that were kept.
+ *   - A format refuses a cell beyond 1,000,000 g either way (CHART_OUT_OF_RANGE), and changes may have moved one further. The host then formats that cell
+ *     within the bound, and a visit adds the rest.
+ *   - Visits and rows are numbered from 1 again: a visit's number that was noted before may be given to another visit.
  */
 #ifndef CHART_STORE_H
 #define CHART_STORE_H
@@ -85,13 +96,13 @@ extern "C" {
 #define CHART_FORMAT_GRAMS 1000000   /* a format takes cells from -1,000,000 to 1,000,000 g */
 #define CHART_STORED_GRAMS 200000000 /* an opening takes stored cells from -200,000,000 to 200,000,000 g */
 
-/* The fuse that never burns: the stored writes of the session are not counted. A fuse of 4,294,967,295 writes is not offered. */
+/* The fuse that never burns: no number of stored writes ends the session. A fuse of 4,294,967,295 writes is not offered. */
 #define CHART_NO_FUSE 4294967295u
 
 /* ---- What is lent ---- */
 
-/* The store's RAM. What the numbers say is the library's affair (docs/FORMAT.md has it); after a format, a power failure and a rejected log or page all of
- * them are 0. */
+/* The store's RAM. What the numbers say is the library's affair (docs/FORMAT.md has it). After a format that is done, a call in which the fuse burns, and an
+ * opening that rejects log or page all of them are 0. */
 typedef struct chart_ram {
     uint32_t head[8];     /* phase, kind of the fuse, writes left, rows stored, rows waiting, visits begun, visits active, scopes in use */
     uint16_t visits[32];  /* 16 active visits */
@@ -116,7 +127,7 @@ typedef struct chart_store {
  *
  * The two counts say which calls wear the memory: each row and each page is one stored write. A row counts for the call that stores it, whichever call added
  * it: an opening, a begin, a commit, a force, a flush, or a call that adds a row while CHART_ROWS_WAITING rows wait (an abort may do so several times). A format
- * counts none, and so does a refused call, but for one in which the power fails: it counts what landed before. */
+ * counts none, and so does a refused call, but for one in which the power fails, or the log is full (CHART_CLOSED): it counts what landed before. */
 typedef uint64_t chart_answer;
 
 static inline int chart_number(chart_answer a) { return (int)((a >> 32) & 255u); }
@@ -130,14 +141,14 @@ enum {
     CHART_WRONG_LENGTH = 1,    /* log or charts have another length, or a format other than CHART_CELLS cells; redo page: log or page have another length */
     CHART_OUT_OF_RANGE = 2,    /* format: a cell beyond 1,000,000 g either way; the value is the first such cell */
     CHART_WRONG_BYTES = 3,     /* open: the first row that is not allowed has an unknown kind, a byte set that must be 0, or another own number, or stands after the end; the value is the row. The store is closed; log and charts are unchanged */
-    CHART_BAD_PAGE = 4,        /* open: a page with a mark that is no row of it, bytes 2-3 not 0, or a cell out of bounds; the value is the page. Else as 3 */
-    CHART_CLOSED = 5,          /* the store is closed, or the power failed in this call (the fuse burnt) and it is closed now, or RAM was altered and its counters are beyond their limits: open it again */
+    CHART_BAD_PAGE = 4,        /* open: a page with a mark other than 0 that is no change or undo row of it, bytes 2-3 not 0, or a cell beyond 200,000,000 g either way; the value is the first such page. Else as 3 */
+    CHART_CLOSED = 5,          /* the store is closed, or the power failed in this call (the fuse burnt) and it is closed now: open it again. Also where RAM was altered: its counters are beyond their limits, or a commit or an abort by its tables needs more rows than the log has, which closes the store */
     CHART_VISITS_USED_UP = 6,  /* begin: 65,535 visits were begun. Only RAM that was altered says so: no log has so many rows */
     CHART_TOO_MANY_ACTIVE = 7, /* begin: 16 visits are active */
-    CHART_NO_ROOM = 8,         /* the log has no room besides what active visits need to end */
-    CHART_NOT_ACTIVE = 9,      /* the visit is not active */
+    CHART_NO_ROOM = 8,         /* begin, change, hand over, hand over all: the log has no room besides what active visits need to end */
+    CHART_NOT_ACTIVE = 9,      /* the visit is not active; hand over, hand over all: the giver or the receiver is not */
     CHART_NO_SUCH_CELL = 10,   /* the cell is above 223 */
-    CHART_SCOPES_USED_UP = 11, /* change: 64 scopes are in use */
+    CHART_SCOPES_USED_UP = 11, /* change: it would start a scope, and 64 are in use */
     CHART_SAME_VISIT = 12,     /* hand over, hand over all: giver and receiver are the same visit */
     CHART_HOLDS_NONE = 13,     /* hand over: the giver holds no change of the cell; hand over all: it holds no change at all */
     CHART_NO_SUCH_PAGE = 14,   /* flush, redo page: the page is above 31 */
@@ -170,12 +181,12 @@ static inline const char *chart_text(int number) {
 }
 
 /* For service staff: what a rejected log points to, in one sentence; empty for every other number. It is a hint and no proof: a byte that changed by itself can
- * make a well-formed row of another visit, and a log in another layout has wrong bytes. */
+ * make a well-formed row of another visit, and so can a row that was torn; and a log in another layout has wrong bytes. */
 static inline const char *chart_service_hint(int number) {
     switch (number) {
     case CHART_WRONG_BYTES: return "These bytes are no row of this store: suspect the memory chip or its supply, and if it is row 1, a log in another layout.";
-    case CHART_BREAKS_RULE: return "The row is well formed, but does not follow from the rows before it: suspect other firmware, or rows of two logs, before the chip.";
-    case CHART_OVER_LIMIT: return "The row follows from the rows before it, but is beyond 16 active visits, 64 scopes or the free rows: suspect firmware with other limits, not the chip.";
+    case CHART_BREAKS_RULE: return "The row is well formed, but does not follow from the rows before it: suspect other firmware, rows of two logs, or a torn last row, before the chip.";
+    case CHART_OVER_LIMIT: return "The row follows from the rows before it, but is beyond 16 active visits, 64 scopes or the free rows: suspect firmware with other limits, or a torn last row, before the chip.";
     default: return "";
     }
 }
@@ -208,24 +219,27 @@ chart_answer chart_read_on(CHART_ARRAYS, uint8_t cell);
     (s)->ram->head, (s)->ram->visits, (s)->ram->scopes, (s)->ram->tail, (s)->ram->copy, (s)->log, (s)->log_length, (s)->charts, (s)->charts_length
 
 /* Makes an empty store: no rows, and each cell at its value of `cells` (CHART_CELLS numbers, in grams; cells_length counts numbers). The power must hold
- * until it returns; if it did not, the store has to be formatted again, since an opening may accept what is there. The store is closed afterwards. Value 0.
- * Refusals 1, 2. */
+ * until it returns; if it did not, the store has to be formatted again, since an opening may accept what is there. Once this is done the store is closed, until
+ * it is opened. Value 0. Refusals 1, 2. */
 static inline chart_answer chart_format(const chart_store *s, const int32_t *cells, uint64_t cells_length) {
     return chart_format_on(CHART_OF(s), cells, cells_length);
 }
 
 /* Opens the store: checks log and pages, brings the copy of the charts up to the log, undoes what no visit committed, and ends the visits that were active.
- * It comes first after every start, and may come at any time; what was in RAM is lost. The fuse is CHART_NO_FUSE, or the number of stored writes that still
- * land in this session, for tests of a power failure: the write after the last one is not made and the call answers CHART_CLOSED.
+ * It comes first after every start, and may come at any time; unless it is refused by 1, what was in RAM is lost, the rows that wait too. The fuse is
+ * CHART_NO_FUSE, or the number of stored writes that still land in this session, for tests of a power failure: the write after the last one is not made and
+ * the call answers CHART_CLOSED.
  * Value: the rows that it wrote. Refusals 1, then 3, 16 or 17, 4, 5. Of the first row that is not allowed 3 comes before 16, and 16 before 17. */
 static inline chart_answer chart_open(const chart_store *s, uint32_t fuse) { return chart_open_on(CHART_OF(s), fuse); }
 
 /* Begins a visit, and stores the rows that wait, then its own, 65 at most: once this has answered done, its number is given to no other visit until the store
- * is formatted, whatever happens to the power. If the power fails in it no visit has begun: it answers 5, and its row is not in the log.
+ * is formatted, whatever happens to the power. If the fuse burns in it, it answers 5, no visit has begun, and its row is not in the log: the next begin has
+ * that number. If the power itself fails before it returns, its row may be in the log: the number is then used, and the next opening ends that visit.
  * Value: its number. Refusals 1, 5, 6, 7, 8. */
 static inline chart_answer chart_begin(const chart_store *s) { return chart_begin_on(CHART_OF(s)); }
 
-/* The visit adds `amount` grams to the cell. Value: the row's number. Refusals 1, 5, 9, 10, 11, 8. */
+/* The visit adds `amount` grams to the cell. The row waits in RAM, as those of a hand-over and of an abort do. Value: the row's number.
+ * Refusals 1, 5, 9, 10, 11, 8. */
 static inline chart_answer chart_change(const chart_store *s, uint16_t visit, uint8_t cell, int16_t amount) {
     return chart_change_on(CHART_OF(s), visit, cell, amount);
 }
@@ -242,11 +256,13 @@ static inline chart_answer chart_hand_over_all(const chart_store *s, uint16_t gi
     return chart_hand_over_all_on(CHART_OF(s), giver, receiver);
 }
 
-/* Commits the visit: once this has answered done, all changes that it holds last, whatever happens to the power. Value: the row's number.
- * Refusals 1, 5, 9. */
+/* Commits the visit, and stores the rows that wait, then its own, 65 at most: once this has answered done, all changes that it holds last, whatever happens to
+ * the power. If the fuse burns in it, it answers 5, and its row is not in the log: none of these changes lasts. If the power itself fails before it returns, its
+ * row may be in the log, and all of them last then. Value: the row's number. Refusals 1, 5, 9. */
 static inline chart_answer chart_commit(const chart_store *s, uint16_t visit) { return chart_commit_on(CHART_OF(s), visit); }
 
-/* Takes back all changes that the visit holds, and ends it. Value: the row's number. Refusals 1, 5, 9. */
+/* Takes back all changes that the visit holds, each by an undo row, and ends it by an abort row. If the power fails before these rows are stored, none of the
+ * changes lasts either. Value: the number of the abort row. Refusals 1, 5, 9. */
 static inline chart_answer chart_abort(const chart_store *s, uint16_t visit) { return chart_abort_on(CHART_OF(s), visit); }
 
 /* Stores the rows that wait in RAM. Value 0. Refusals 1, 5. */

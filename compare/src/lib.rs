@@ -2,7 +2,7 @@
 //! written twice in Rust, and the comparison of the proved store with both.
 //!
 //! `paper` is document 01 rendered as literally as possible; `fast` is an efficient store; `proved` is the
-//! proved one by its functions for C, and `public` the same by its public calls. The comparison gives all
+//! proved one by its header for C (`header`), and `public` the same by its public calls. The comparison gives all
 //! the same calls and expects the same answers and the same bytes after each of them. It knows a store only
 //! by the trait `Store`.
 
@@ -13,6 +13,7 @@ pub mod cases;
 pub mod cover;
 pub mod demands;
 pub mod fast;
+pub mod header;
 pub mod numbers;
 pub mod observe;
 pub mod paper;

@@ -1,6 +1,8 @@
-//! The proved store: the functions of `include/chart_store.h`, from the archive that `rt staticlib embed`
-//! writes, and the arrays that they work on; and the proved program `relog`, which `rt check relog` builds.
+//! The proved store: the functions of the archive that `rt staticlib embed` writes, and the arrays that they
+//! work on; the same as a `Store` of the comparison, which calls them by the inline functions of
+//! `include/chart_store.h`; and the proved program `relog`, which `rt check relog` builds.
 
+use crate::header;
 use crate::numbers::{self, unpacked, Garbage};
 use crate::store::{noise, with_length};
 use crate::store::{Answer, Buffer, Call, Lengths, Scope, State, Store, RIGHT};
@@ -183,7 +185,7 @@ impl Default for Proved {
     }
 }
 
-/// The proved store as a `Store` of the comparison.
+/// The proved store as a `Store` of the comparison: each call goes by the header for C.
 #[derive(Clone, Default)]
 pub struct ProvedStore {
     store: Proved,
@@ -233,24 +235,24 @@ impl Store for ProvedStore {
     }
 
     fn format(&mut self, cells: &[i32]) -> Answer {
-        self.with_lent(|store| store.format(cells))
+        self.with_lent(|store| header::format(store, cells))
     }
 
     fn open(&mut self, fuse: Option<u32>) -> Answer {
-        self.with_lent(|store| store.open(fuse))
+        self.with_lent(|store| header::open(store, fuse))
     }
 
     fn call(&mut self, call: Call) -> Answer {
         self.with_lent(|store| match call {
-            Call::Begin => store.begin(),
-            Call::Change { visit, cell, amount } => store.change(visit, cell, amount),
-            Call::HandOver { giver, receiver, cell } => store.hand_over(giver, receiver, cell),
-            Call::HandOverAll { giver, receiver } => store.hand_over_all(giver, receiver),
-            Call::Commit { visit } => store.commit(visit),
-            Call::Abort { visit } => store.abort(visit),
-            Call::Force => store.force(),
-            Call::FlushPage { page } => store.flush(page),
-            Call::Read { cell } => store.read(cell),
+            Call::Begin => header::begin(store),
+            Call::Change { visit, cell, amount } => header::change(store, visit, cell, amount),
+            Call::HandOver { giver, receiver, cell } => header::hand_over(store, giver, receiver, cell),
+            Call::HandOverAll { giver, receiver } => header::hand_over_all(store, giver, receiver),
+            Call::Commit { visit } => header::commit(store, visit),
+            Call::Abort { visit } => header::abort(store, visit),
+            Call::Force => header::force(store),
+            Call::FlushPage { page } => header::flush(store, page),
+            Call::Read { cell } => header::read(store, cell),
         })
     }
 
@@ -280,7 +282,7 @@ impl Store for ProvedStore {
     }
 
     fn redo_page(&self, log: &[u8], page: &mut [u8], number: u8) -> Option<Answer> {
-        Some(redo_page(log, page, number))
+        Some(header::redo_page(log, page, number))
     }
 
     fn copied(&self) -> Box<dyn Store> {
