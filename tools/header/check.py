@@ -1,4 +1,4 @@
-#!/usr/bin/env python3
+#!/usr/bin/env -S python3 -B
 """Compares include/chart_store.h with the source that it stands for. It prints each fault with its line, and exits with 1 if there is one.
 
   tools/header/check.py [HEADER]
@@ -279,9 +279,12 @@ def differences(given, expected):
     found, wanted = [token for token, _ in given], [token for token, _ in expected]
     if found == wanted:
         return []
+    # What is the same before the first difference takes difflib long, and is left out.
+    same = next((i for i, (one, two) in enumerate(zip(found, wanted)) if one != two), min(len(found), len(wanted)))
     shown = lambda words: ' '.join(words) or 'nothing'
-    return [(given[min(i, len(given) - 1)][1], f'{shown(found[i:j])}, where the sources have {shown(wanted[k:m])}')
-            for kind, i, j, k, m in difflib.SequenceMatcher(None, found, wanted, autojunk=False).get_opcodes() if kind != 'equal']
+    steps = difflib.SequenceMatcher(None, found[same:], wanted[same:], autojunk=False).get_opcodes()
+    return [(given[min(same + i, len(given) - 1)][1], f'{shown(found[same + i : same + j])}, where the sources have {shown(wanted[same + k : same + m])}')
+            for kind, i, j, k, m in steps if kind != 'equal']
 
 
 def named_refusals(text):
@@ -292,9 +295,9 @@ def named_refusals(text):
     wanted = {name: f'Refusals {", ".join(map(str, numbers))}' for name, numbers in wanted.items()}
     wanted['open'] = 'Refusals 1, then 3, 16 or 17, 4, 5'
     found = {}
-    for comment, name in re.findall(r'/\*((?:(?!\*/).)*)\*/\n(?:static inline )?chart_answer chart_(\w+)\((?:const chart_store|const uint8_t)', text, re.S):
-        said = re.findall(r'Refusals [\d, a-z]*\d', re.sub(r'\s*\n \* ?', ' ', comment))
-        found[name] = said
+    for function in re.finditer(r'\*/\n(?:static inline )?chart_answer chart_(\w+)\((?:const chart_store|const uint8_t)', text):
+        comment = text[text.rindex('/*', 0, function.start()) : function.start()]
+        found[function[1]] = re.findall(r'Refusals [\d, a-z]*\d', re.sub(r'\s*\n \* ?', ' ', comment))
     return [f'chart_{name}: its comment says {found.get(name)}, and the sources {wanted.get(name)}'
             for name in sorted(found.keys() | wanted.keys()) if found.get(name) != [wanted.get(name)]]
 
