@@ -12,7 +12,7 @@ The code of the header, without its comments, must be token by token the code th
   numbers and texts          the tables of docs/FORMAT.md, whose numbers are those of state/specs/Answers, case by case
   the version                the newest one of CHANGELOG.md
 
-Of the comments it checks the refusals that each call names: those of `ownNumbers` (state/specs/Contracts), in its order."""
+Of the comments it checks the refusals that each call names: those of `ownNumbers` (state/specs/Contracts), in its order. The replay of tools/unit lists the same ones."""
 import difflib
 import functools
 import pathlib
@@ -138,10 +138,12 @@ def takes():
     return {'value': (0, values - 1), 'number': (shift(number), numbers - 1), 'rows': (shift(rows), row_count - 1), 'pages': (shift(pages), page_count - 1)}
 
 
-def own_numbers():
-    """The numbers of 01's table for each call, by the call's name in C."""
+def refused_by():
+    """The numbers by which each function may be refused, by its name in C."""
     lines = re.findall(r'^ownNumbers \(?Call\.(\w+)[^=]*= ((?:\d+ ∷ )*)\[\]$', read('crates/state/specs/Contracts.antt'), re.M)
-    return {snake(name).lower(): [int(word) for word in numbers.split(' ∷ ') if word] for name, numbers in lines}
+    found = {snake(name).lower(): [1, 5] + [int(word) for word in numbers.split(' ∷ ') if word] for name, numbers in lines}
+    # Format by `formats` (state/specs/Contracts), an opening by `opens` (the same), a page alone by `redoneAlone` (recovery_model/specs/PageAlone).
+    return found | {'format': [1, 2], 'open': [1, 3, 16, 17, 4, 5], 'redo_page': [1, 14]}
 
 
 # ── The papers ────────────────────────────────────────────────────────────────────────────────────────────────────────
@@ -289,17 +291,22 @@ def differences(given, expected):
 
 def named_refusals(text):
     """The comment before each call ends with the numbers by which it may be refused."""
-    wanted = {name: [1, 5, *numbers] for name, numbers in own_numbers().items()}
-    # Format by `formats` (state/specs/Contracts), a page alone by `redoneAlone` (recovery_model/specs/PageAlone); an opening has its own words.
-    wanted |= {'format': [1, 2], 'redo_page': [1, 14]}
-    wanted = {name: f'Refusals {", ".join(map(str, numbers))}' for name, numbers in wanted.items()}
-    wanted['open'] = 'Refusals 1, then 3, 16 or 17, 4, 5'
+    wanted = {name: f'Refusals {", ".join(map(str, numbers))}' for name, numbers in refused_by().items()}
+    # Of a row one of three.
+    wanted['open'] = wanted['open'].replace('1, 3, 16, 17,', '1, then 3, 16 or 17,')
     found = {}
     for function in re.finditer(r'\*/\n(?:static inline )?chart_answer chart_(\w+)\((?:const chart_store|const uint8_t)', text):
         comment = text[text.rindex('/*', 0, function.start()) : function.start()]
         found[function[1]] = re.findall(r'Refusals [\d, a-z]*\d', re.sub(r'\s*\n \* ?', ' ', comment))
     return [f'chart_{name}: its comment says {found.get(name)}, and the sources {wanted.get(name)}'
             for name in sorted(found.keys() | wanted.keys()) if found.get(name) != [wanted.get(name)]]
+
+
+def replayed():
+    """The answers that have to occur in the replay of tools/unit are those of each function."""
+    lines = re.findall(r'^    \[(\w+)\] = \{"[^"]*", \d+, \{((?:\d+, )+)END_OF_ANSWERS\}\},$', read('tools/unit/replay.c'), re.M)
+    found = {name.lower(): [int(word) for word in numbers.split(', ') if word] for name, numbers in lines}
+    need(found == {name: sorted([0, *numbers]) for name, numbers in refused_by().items()}, 'tools/unit/replay.c: not the answers of each function')
 
 
 @functools.lru_cache(maxsize=None)
@@ -315,6 +322,7 @@ def faults(text):
 def main():
     path = pathlib.Path(sys.argv[1]) if len(sys.argv) > 1 else HEADER
     try:
+        replayed()
         found = faults(path.read_text(encoding='utf-8'))
     except Fault as fault:
         sys.exit(f'header: {fault}')
@@ -322,7 +330,7 @@ def main():
         print(f'{path.name}:{line}: {fault}' if line else f'{path.name}: {fault}')
     if found:
         sys.exit(f'header: {len(found)} faults')
-    print(f'header: ok, {len(expected_tokens())} tokens of code and the refusals of {len(own_numbers()) + 3} functions are those of the sources')
+    print(f'header: ok, {len(expected_tokens())} tokens of code and the refusals of {len(refused_by())} functions are those of the sources')
 
 
 if __name__ == '__main__':
