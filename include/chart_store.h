@@ -21,9 +21,9 @@
  *   - The memory of log and charts stores as is said next.
  *
  * Nothing else is asked: a log, charts, cells or a page of another length are refused (CHART_WRONG_LENGTH), and no argument and no contents of RAM, log,
- * charts and page can make a call trap, run on or write elsewhere. A refused call changes no byte, with two exceptions, which leave every byte of RAM 0:
- * an opening that rejects the store (CHART_WRONG_BYTES, CHART_BREAKS_RULE, CHART_OVER_LIMIT, CHART_BAD_PAGE), and a call or an opening that closes the store
- * (CHART_CLOSED, where the power fails or the log is full). What the latter stored before is in the log.
+ * charts and page can make a call trap, run on or write elsewhere. A refused call changes no byte, with two exceptions, which leave every byte of RAM 0.
+ * One is an opening that rejects the store (CHART_WRONG_BYTES, CHART_BREAKS_RULE, CHART_OVER_LIMIT, CHART_BAD_PAGE). The other is a call or an opening that
+ * closes the store (CHART_CLOSED, where the power fails or the log is full); the rows that it stored before are in the log.
  *
  * What the memory of log and charts must do
  *
@@ -43,10 +43,10 @@
  *     middle of a call (watchdog, detector, debugger) counts as a power failure, and may not fall inside a row or a page either.
  *
  * Where the part cannot store 16 or 32 bytes as one, as on a bus of 32 bits, it takes hold-up energy for the few microseconds of one row or page, and a
- * processor that is not stopped inside one. For instance, after the warning the host starts no further call, and the one that runs returns on the capacitor,
- * which then has to last for the longest call: docs/FORMAT.md has the rows that each call stores.
- * Without that such a part must not be used: a page that is torn between its mark and its cells is not seen by the check of an opening, and a committed
- * change is then missing or counted twice; and a commit row of a visit above 255 that is torn before its byte 10 may commit another visit.
+ * processor that is not stopped inside one. For instance, after the warning the host starts no further call, and the one that runs returns on the
+ * capacitor, which then has to last for the longest call: docs/FORMAT.md has the rows that each call stores. Without that such a part must not be used: a
+ * page that is torn between its mark and its cells is not seen by the check of an opening, and a committed change is then missing or counted twice; and a
+ * commit row of a visit above 255 that is torn before its byte 10 may commit another visit.
  *
  * Which processor
  *
@@ -61,9 +61,9 @@
  * is always room, reads the cells, and formats the store with them. It sees to three things:
  *
  *   - It keeps the values that it read in other memory that keeps its bytes without power, until the format has answered done. During the format the power
- *     must hold; if it fails, log and charts are lost, and the store has to be formatted again, with the values that were kept.
+ *     must hold; if it fails, log and charts are lost. A start that finds values kept formats the store with them again, before it opens it.
  *   - A format refuses a cell beyond 1,000,000 g either way (CHART_OUT_OF_RANGE), and changes may have moved one further. The host then formats that cell
- *     within the bound, and a visit adds the rest.
+ *     within the bound, a visit adds the rest, and the values are kept until that visit has committed.
  *   - Visits and rows are numbered from 1 again: a visit's number that was noted before may be given to another visit.
  */
 #ifndef CHART_STORE_H
