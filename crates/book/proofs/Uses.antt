@@ -274,7 +274,7 @@ in-order-sum = refl
 pub swapped-first-accepted : happens zeros three (eventFor ofCell7) .answer .number ≡ 0
 swapped-first-accepted = orders .accepted .first
 
-pub swapped-second-accepted : happens zeros (happens zeros three (eventFor ofCell7) .book) (eventFor ofCell0) .answer .number ≡ 0
+pub swapped-second-accepted : DoneOrCut (happens zeros (happens zeros three (eventFor ofCell7) .book) (eventFor ofCell0) .answer .number)
 swapped-second-accepted = orders .accepted .second
 
 pub swapped-answers : answers zeros three (oneThenOther ofCell7 ofCell0 readAgain) ≡
