@@ -300,18 +300,18 @@ module _ (cells : ℕ → ℤ) (b : Book) (h k : Single) (s : Sound b) (p : Both
   two = takes cells (through b (callFor h)) k (was-open cells b (callFor h) (p .first) .1)
       (rw (it-comes-to cells b (callFor h) one, ended-book (value cells b (callFor h)) (through b (callFor h))) at (p .second))
 
-  one′ : Takes b (callFor k)
-  one′ = first-taken cells b s h k (p .apart) one two
+  swapped-first : Takes b (callFor k)
+  swapped-first = first-taken cells b s h k (p .apart) one two
 
-  two′ : Takes (through b (callFor k)) (callFor h)
-  two′ = second-taken cells b s h k (p .apart) one two
+  swapped-second : Takes (through b (callFor k)) (callFor h)
+  swapped-second = second-taken cells b s h k (p .apart) one two
 
   -- the books after both
   is : bookAfter cells b (oneThenOther h k []) ≡ through (through b (callFor h)) (callFor k)
   is = second-book cells b h k one two
 
   is′ : bookAfter cells b (oneThenOther k h []) ≡ through (through b (callFor k)) (callFor h)
-  is′ = second-book cells b k h one′ two′
+  is′ = second-book cells b k h swapped-first swapped-second
 
   pub beside : Beside (bookAfter cells b (oneThenOther h k [])) (bookAfter cells b (oneThenOther k h []))
   beside = rw (is, is′) (record {
@@ -324,27 +324,27 @@ module _ (cells : ℕ → ℤ) (b : Book) (h k : Single) (s : Sound b) (p : Both
   pub stored-between : happens cells b (eventFor k) .book .stored ≡ happens cells b (eventFor h) .book .stored
   unfolding through adds
   stored-between =
-      ap (λ (x : Book). x .stored) (first-book cells b k h one′ two′ ∙ add-open b (rowOf k) (two′ .isOpen)) ∙
+      ap (λ (x : Book). x .stored) (first-book cells b k h swapped-first swapped-second ∙ add-open b (rowOf k) (swapped-second .isOpen)) ∙
       ap (λ (x : Book). x .stored) (sym (first-book cells b h k one two ∙ add-open b (rowOf h) (two .isOpen)))
 
   -- what the two of them answer and count
   first-same : happens cells b (eventFor k) .answer ≡ happens cells b (eventFor h) .answer
   first-same =
-      ap (λ (o : Outcome). o .answer) (it-comes-to cells b (callFor k) one′) ∙ first-answer cells b s h k (p .apart) one two ∙
+      ap (λ (o : Outcome). o .answer) (it-comes-to cells b (callFor k) swapped-first) ∙ first-answer cells b s h k (p .apart) one two ∙
       ap (λ (o : Outcome). o .answer) (sym (it-comes-to cells b (callFor h) one))
 
   second-same : happens cells (happens cells b (eventFor k) .book) (eventFor h) .answer ≡ happens cells (happens cells b (eventFor h) .book) (eventFor k) .answer
   second-same =
-      ap (λ (o : Outcome). o .answer) (second-is cells b k h one′ two′) ∙ second-answer cells b s h k (p .apart) one two ∙
+      ap (λ (o : Outcome). o .answer) (second-is cells b k h swapped-first swapped-second) ∙ second-answer cells b s h k (p .apart) one two ∙
       ap (λ (o : Outcome). o .answer) (sym (second-is cells b h k one two))
 
   first-landed : eventWrites cells b (eventFor k) ≡ eventWrites cells b (eventFor h)
   first-landed =
-      ap (landed b) (first-book cells b k h one′ two′) ∙ first-counts cells b s h k (p .apart) one two ∙ ap (landed b) (sym (first-book cells b h k one two))
+      ap (landed b) (first-book cells b k h swapped-first swapped-second) ∙ first-counts cells b s h k (p .apart) one two ∙ ap (landed b) (sym (first-book cells b h k one two))
 
   second-landed : eventWrites cells (happens cells b (eventFor k) .book) (eventFor h) ≡ eventWrites cells (happens cells b (eventFor h) .book) (eventFor k)
   second-landed =
-      ap₂ landed (first-book cells b k h one′ two′) is′ ∙ second-counts cells b s h k (p .apart) one two ∙ ap₂ landed (sym (first-book cells b h k one two)) (sym is)
+      ap₂ landed (first-book cells b k h swapped-first swapped-second) is′ ∙ second-counts cells b s h k (p .apart) one two ∙ ap₂ landed (sym (first-book cells b h k one two)) (sym is)
 
   -- the books are one where the power fails in the second
   one-book : happens cells (happens cells b (eventFor h) .book) (eventFor k) .answer .number ≡ 5
