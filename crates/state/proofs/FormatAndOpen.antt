@@ -2,12 +2,12 @@
 use Prim.Native.Nat.{ℕ}
 use mathlib.Core.Path.{_≡_, refl}
 use mathlib.Core.Bool.{true}
-use mathlib.Core.List.{List, [], _∷_}
+use mathlib.Core.List.{List, [], _∷_, map}
 use lib.ListN.{replicate, set}
 use lib.IntN.{ℤ, pos, negsuc}
-use Rattle.book.specs.Power.{none}
+use Rattle.book.specs.Power.{none, left}
 use Rattle.book.specs.Book.{answer}
-use Rattle.state.specs.World.{World, rightLengths, cleared}
+use Rattle.state.specs.World.{World, rightLengths, fuseOfNumber, cleared}
 use Rattle.state.specs.Contracts.{answered, badCell, formats, opens}
 
 -- z in cell c, 0 in the other 223
@@ -51,3 +51,7 @@ format-1-before-2 = refl
 pub open-1-before-3 : opens none (cleared (7 ∷ []) []) ≡ answered 1 (pos 0) (cleared (7 ∷ []) [])
 unfolding opens
 open-1-before-3 = refl
+
+-- 01: the fuse 4294967295 is none, "every other number that many writes"
+pub fuse-numbers : map fuseOfNumber (0 ∷ 4294967294 ∷ 4294967295 ∷ []) ≡ left 0 ∷ left 4294967294 ∷ none ∷ []
+fuse-numbers = refl

@@ -16,3 +16,4 @@ pub mod Decisions
 pub mod Satisfiable
 pub mod Rounds
 pub mod Numbers
+pub mod Uses
