@@ -6,7 +6,7 @@ use mathlib.Core.Bool.{Bool, true, false, cond, not, _||_}
 use mathlib.Core.Logic.{_⊎_, inl, inr}
 use mathlib.Core.List.{List, [], _∷_, _++_, map, head-eq-of-cons-eq, tail-eq-of-cons-eq}
 use lib.ListN.{length}
-use lib.IntN.{ℤ, pos}
+use lib.IntN.{ℤ, pos, negsuc}
 use lib.Dec.{eqb, ltb}
 use borrow.Author.Tests.{eqb-true, eq-eqb}
 use Rattle.book.specs.Lists.{member}
@@ -283,3 +283,17 @@ any-format values long good given right =
       refl,
       refl,
     )
+
+-- ── The numbers of the types ──────────────────────────────────────────────────────────────────────────────────────────
+
+-- the greatest and the least numbers that a request and a fuse can have are asked for in some sessions
+abbrev pub atTheEnds : List Event
+atTheEnds = map (calls true)
+    (Call.begin ∷ Call.change 65535 255 (negsuc 32767) ∷ Call.change 0 0 (pos 32767) ∷ Call.handOver 65535 65535 255 ∷ Call.commit 65535 ∷ Call.abort 65535 ∷
+    Call.force ∷ Call.flush 255 ∷ Call.read 255 ∷ Call.handOverAll 65535 65535 ∷ []) ++ (opens false (left 4294967295) ∷ calls false Call.begin ∷ [])
+
+pub ends-occur : (format : FormatCall) → answeredBy (format .return) .answer .number ≡ 0
+    → SessionsOfCalls (answeredBy (format .return) .world) (opens true (left 4294967295) ∷ atTheEnds)
+unfolding EveryListOfCalls
+ends-occur format is-done =
+    every-list-of-calls format is-done true (left 4294967295) atTheEnds (tt, (tt, (tt, (tt, (tt, (tt, (tt, (tt, (tt, (tt, (tt, (tt, tt))))))))))))

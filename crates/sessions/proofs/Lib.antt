@@ -21,4 +21,5 @@ pub mod UsesOfDemand1
 pub mod UsesOfDemand3
 pub mod UsesOfDemand2
 pub mod UsesOfSurvives
+pub mod UsesOfSwapped
 pub mod EveryListMade

@@ -228,35 +228,35 @@ module _ (cells : ℕ → ℤ) (own : World) (o : Opening) (one two ch ho ab co 
         ap (λ (l : List Row). answer 0 (keptSum cells l 0)) log-ready ∙ ap (answer 0) (sums-kept cells .0)
 
     -- `commits`: row 6 of the log in the end, and the change that visit 1 made and visit 2 held
-    pub lasts : Lasts (bookOf cells (take 6 kept)) 2 (co .result .answer) (logOf cells kept)
-    lasts = h .commits (take 6 kept) (drop 7 kept) [] co 2 refl (ap askedIn (event 6)) (number 6)
+    pub commit-lasts : Lasts (bookOf cells (take 6 kept)) 2 (co .result .answer) (logOf cells kept)
+    commit-lasts = h .commits (take 6 kept) (drop 7 kept) [] co 2 refl (ap askedIn (event 6)) (number 6)
 
-    pub commit-number : lasts .number ≡ 6
-    commit-number = number-of (sym (lasts .value) ∙ ap (λ (xs : List Answer). valueAt xs 6) kept-answers)
+    pub commit-number : commit-lasts .number ≡ 6
+    commit-number = number-of (sym (commit-lasts .value) ∙ ap (λ (xs : List Answer). valueAt xs 6) kept-answers)
 
-    pub commit-row : (1 ≤ lasts .number) × (lasts .number ≤ 6) × (rowAt keptRows 6 ≡ Row.commit 2)
+    pub commit-row : (1 ≤ commit-lasts .number) × (commit-lasts .number ≤ 6) × (rowAt keptRows 6 ≡ Row.commit 2)
     commit-row = (
-      lasts .row .from,
-      subst (λ (l : List Row). lasts .number ≤ length l) log-end (lasts .row .to),
-      subst (λ (l : List Row). rowAt l 6 ≡ Row.commit 2) log-end (subst (λ (n : ℕ). rowAt (logOf cells kept) n ≡ Row.commit 2) commit-number (lasts .row .is)),
+      commit-lasts .row .from,
+      subst (λ (l : List Row). commit-lasts .number ≤ length l) log-end (commit-lasts .row .to),
+      subst (λ (l : List Row). rowAt l 6 ≡ Row.commit 2) log-end (subst (λ (n : ℕ). rowAt (logOf cells kept) n ≡ Row.commit 2) commit-number (commit-lasts .row .is)),
     )
 
     pub commit-sum : InSum keptRows handed
-    commit-sum = subst (λ (l : List Row). InSum l handed) log-end (lasts .sum handed
+    commit-sum = subst (λ (l : List Row). InSum l handed) log-end (commit-lasts .sum handed
         (subst (λ (es : List Event). Logged (rowsOf (bookAfter cells formatted (take 6 es))) handed) (sym are) (held-by-2 cells)) refl)
 
     -- `begins`: row 2 of the log in the end
-    pub starts : Begun (bookOf cells (take 2 kept)) (two .result .answer) (logOf cells kept)
-    starts = h .begins (take 2 kept) (drop 3 kept) [] two refl (ap askedIn (event 2)) (number 2)
+    pub begin-lasts : Begun (bookOf cells (take 2 kept)) (two .result .answer) (logOf cells kept)
+    begin-lasts = h .begins (take 2 kept) (drop 3 kept) [] two refl (ap askedIn (event 2)) (number 2)
 
-    pub begin-visit : starts .visit ≡ 2
-    begin-visit = number-of (sym (starts .value) ∙ ap (λ (xs : List Answer). valueAt xs 2) kept-answers)
+    pub begin-visit : begin-lasts .visit ≡ 2
+    begin-visit = number-of (sym (begin-lasts .value) ∙ ap (λ (xs : List Answer). valueAt xs 2) kept-answers)
 
     pub begin-row : RowIs 2 (Row.begin 2) keptRows
     begin-row =
         let before = ap (λ (es : List Event). suc (length (rowsOf (bookAfter cells formatted (take 2 es))))) are ∙ ap suc (one-before cells) in
         subst (RowIs 2 (Row.begin 2)) log-end (subst (λ (n : ℕ). RowIs n (Row.begin 2) (logOf cells kept)) before
-        (subst (λ (v : ℕ). RowIs (suc (length (rowsOf (bookOf cells (take 2 kept))))) (Row.begin v) (logOf cells kept)) begin-visit (starts .row)))
+        (subst (λ (v : ℕ). RowIs (suc (length (rowsOf (bookOf cells (take 2 kept))))) (Row.begin v) (logOf cells kept)) begin-visit (begin-lasts .row)))
 
     -- `numbers-rise`: visits 1 and 2
     pub kept-rises : (v : ℕ) × (w : ℕ) × (v ≡ 1) × (w ≡ 2) × (v < w)
