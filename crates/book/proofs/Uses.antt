@@ -18,7 +18,7 @@ use Rattle.book.specs.Book.{Answer, answer, done, refusal, starting, reo
 use Rattle.book.specs.Events.{Event, opens, calls, happens, answers, bookAfter}
 use Rattle.book.specs.Writes.{Writes, openingWrites}
 use Rattle.book.specs.SessionWrites.{writes, summed, together, Counted, flushesDone, SessionCounts}
-use Rattle.book.specs.Swapped.{eventFor, oneThenOther, EitherOrder}
+use Rattle.book.specs.Swapped.{eventFor, DoneOrCut, oneThenOther, EitherOrder}
 use Rattle.book.specs.OpeningCost.{BeginsAndChanges, Cost, costliest, Costliest}
 use Rattle.book.specs.HandOverAll.{butRows, heldCells, allLawful, MeansSingles, AcceptedAlike, AllowedAlike}
 use Rattle.book.specs.RowBytes.{rowBytes, rowOf}
