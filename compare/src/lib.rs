@@ -2,9 +2,9 @@
 //! written twice in Rust, and the comparison of the proved store with both.
 //!
 //! `paper` is document 01 rendered as literally as possible; `fast` is an efficient store; `proved` is the
-//! proved one by its header for C (`header`), and `public` the same by its public calls. The comparison gives all
-//! the same calls and expects the same answers and the same bytes after each of them. It knows a store only
-//! by the trait `Store`.
+//! proved one by its header for C (`header`), and `public` the same by its public calls. The comparison gives
+//! all the same calls and expects the same answers and the same bytes after each of them. It knows a store
+//! only by the trait `Store`.
 
 pub mod adapters;
 pub mod arena;

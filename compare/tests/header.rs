@@ -1,6 +1,6 @@
-//! The names of `include/chart_store.h`, as C has them, beside those of the papers: limits and refusal numbers by
-//! documents 01 and 02, `chart_ram` as the comparison lends it, how an answer is taken apart, and the texts that
-//! docs/FORMAT.md lists.
+//! The names of `include/chart_store.h`, as C has them, beside those of the papers: limits and refusal
+//! numbers by documents 01 and 02, `chart_ram` as the comparison lends it, how an answer is taken apart, and
+//! the texts that docs/FORMAT.md lists.
 
 use compare::header::{constants, parts_of, service_hint, text, Parts};
 use compare::numbers::unpacked;
