@@ -1,8 +1,8 @@
 #!/usr/bin/env bash
 # All tests: the layout of the files, what scripts write, what the papers cite, the header for C beside its source, where the source stores and goes by the fuse, every proof with the wrong
-# programs and the programs, where each wrong program is refused, the example in C, the
-# archive for the unit on a model of its processor (left out, with a line that says so, where a package is missing), the comparison with the other implementations, and the workloads of the
-# benchmark, whose results are compared and not measured. The last line is the prover's own count; the exit status is not 0 when anything failed.
+# programs and the programs, where each wrong program is refused, the example in C, the order of the stores that the archive makes, the archive for the unit on a model of its processor (left
+# out, with a line that says so, where a package is missing), the comparison with the other implementations, and the workloads of the benchmark, whose results are compared and not measured.
+# The last line is the prover's own count; the exit status is not 0 when anything failed.
 set -uo pipefail
 cd "$(dirname "$0")" || exit 1
 failed=0
@@ -35,6 +35,7 @@ linked() {
     local failed=0
     proved embed || return 1
     examples/c/run.sh || failed=1
+    { tools/unit/order.sh host && tools/unit/test_order.sh host; } || failed=1
     tools/unit/test.sh || [ $? -eq 77 ] || failed=1
     (cd bench && cargo run --release --offline --quiet -- --check) || failed=1
     proved public_calls || return 1

@@ -1,22 +1,18 @@
 /*
- * Calls and openings of which the order of their stores is to be seen (order.sh). For each of them a line is printed with the units that it has to store, in their
- * order: as many rows as the answer counts, from the first that the log has not, and the page of a flush. The same session comes with every fuse, from none of its
- * stored writes to all: with a fuse of k the answers have to count k, so that the order of the stores is that of the writes which the fuse counts. With
- * SHORT it comes once, without a fuse, and the longest openings are left out.
+ * Calls and openings of which the order of their stores is to be seen (order.sh). For each that is watched a line is printed with the units that it has to store, in their order: as many rows as the
+ * answer counts, from the first that the log has not, and the page of a flush.
+ *
+ * One session comes without a fuse, and with a fuse of as many writes as it made: answers and bytes have to be the same. Then it comes with every smaller fuse, and its answers have to count as many
+ * writes as the fuse has, so that the order of the stores is that of the writes which the fuse counts. There the calls are watched from the one on in which the fuse burns; those before it are watched
+ * in the first two. Last are the longest openings. With FIRST_SESSIONS all ends after the first two sessions: test_order.sh holds that to be the beginning of the whole.
  */
 #include <stdio.h>
+#include <stdlib.h>
 #include <string.h>
 
 #include "chart_store.h"
 #include "marks.h"
 
-#ifdef SHORT
-#define FIRST_FUSE CHART_NO_FUSE
-#define MOST_CELLS 0
-#else
-#define FIRST_FUSE 0
-#define MOST_CELLS 64
-#endif
 #define PAGE_OF_PROCESSOR 4096u
 static struct {
     uint8_t log[CHART_LOG_LENGTH], charts[CHART_CHARTS_LENGTH], rest[PAGE_OF_PROCESSOR - CHART_CHARTS_LENGTH];
@@ -30,19 +26,39 @@ static unsigned most_rows[CALLS]; /* that a call of the kind has stored */
 static uint32_t rows_before, writes; /* writes: those that the answers of a session count */
 static int last;                     /* the number of the last answer */
 
+/* The calls of the session without a fuse: what each answered, and the writes up to its end. In a session with a fuse a call is watched if that is more than the fuse has. */
+static struct {
+    chart_answer answer;
+    uint32_t writes;
+} unlimited[400];
+static unsigned calls, different; /* calls of this session; those of them that answered something else */
+static int watch_all = 1;
+static uint32_t fuse_now;
+
+static int watched(void) { return watch_all || unlimited[calls].writes > fuse_now; }
+
 static void before(void) {
+    if (calls == sizeof unlimited / sizeof *unlimited) abort();
     rows_before = 0;
     while (rows_before < CHART_ROWS && stored.log[CHART_ROW_LENGTH * rows_before] != 0) rows_before++;
-    mark_begin();
+    if (watched()) mark_begin();
 }
 static chart_answer after(int call, chart_answer a, int page) {
-    mark_end();
-    if (chart_rows(a) > most_rows[call]) most_rows[call] = chart_rows(a);
-    for (uint32_t k = 1; k <= chart_rows(a); k++) printf(" %lu", (unsigned long)(rows_before + k));
-    if (chart_pages(a) == 1) printf(" p%d", page);
-    puts("");
+    if (watched()) {
+        mark_end();
+        if (chart_rows(a) > most_rows[call]) most_rows[call] = chart_rows(a);
+        for (uint32_t k = 1; k <= chart_rows(a); k++) printf(" %lu", (unsigned long)(rows_before + k));
+        if (chart_pages(a) == 1) printf(" p%d", page);
+        puts("");
+    }
     writes += chart_rows(a) + chart_pages(a);
     last = chart_number(a);
+    if (fuse_now == CHART_NO_FUSE) {
+        unlimited[calls].answer = a;
+        unlimited[calls].writes = writes;
+    }
+    different += unlimited[calls].answer != a;
+    calls++;
     return a;
 }
 #define WATCHED(call, made) (before(), after(call, made, -1))
@@ -62,7 +78,8 @@ static void format(void) {
 /* Every call that stores anything does so here: while few rows wait, and while 64 of them do. */
 static void session(uint32_t fuse) {
     uint8_t page[CHART_PAGE_LENGTH];
-    writes = 0;
+    writes = calls = different = 0;
+    fuse_now = fuse;
     WATCHED(OPEN, chart_open(&store, fuse));
     uint16_t v = begin(), w = begin();
     for (int k = 0; k < 70; k++) change(k % 2 ? v : w, 3 * k % 50);
@@ -93,8 +110,7 @@ static void session(uint32_t fuse) {
 }
 
 int main(void) {
-    static uint8_t log_kept[CHART_LOG_LENGTH], charts_kept[CHART_CHARTS_LENGTH];
-    uint32_t fuse = FIRST_FUSE;
+    static uint8_t log_kept[CHART_LOG_LENGTH], charts_kept[CHART_CHARTS_LENGTH], log_after[CHART_LOG_LENGTH], charts_after[CHART_CHARTS_LENGTH];
     mark_memory(stored.log, stored.charts);
 
     /* Five visits with changes, handed round, are active when the power fails. */
@@ -105,25 +121,40 @@ int main(void) {
     flush(0);
     memcpy(log_kept, stored.log, sizeof log_kept);
     memcpy(charts_kept, stored.charts, sizeof charts_kept);
-    do {
+
+    session(CHART_NO_FUSE);
+    uint32_t all = writes;
+    if (last != CHART_DONE) return puts("the session without a fuse fails"), 1;
+    memcpy(log_after, stored.log, sizeof log_after);
+    memcpy(charts_after, stored.charts, sizeof charts_after);
+
+    memcpy(stored.log, log_kept, sizeof log_kept);
+    memcpy(stored.charts, charts_kept, sizeof charts_kept);
+    session(all);
+    if (different || memcmp(stored.log, log_after, sizeof log_after) != 0 || memcmp(stored.charts, charts_after, sizeof charts_after) != 0)
+        return printf("with a fuse of %lu the session is not the same as without one\n", (unsigned long)all), 1;
+
+#ifndef FIRST_SESSIONS
+    watch_all = 0;
+    for (uint32_t fuse = 0; fuse < all; fuse++) {
         memcpy(stored.log, log_kept, sizeof log_kept);
         memcpy(stored.charts, charts_kept, sizeof charts_kept);
         session(fuse);
-        if (last == CHART_CLOSED && writes != fuse) {
-            printf("a session with a fuse of %lu counts %lu writes\n", (unsigned long)fuse, (unsigned long)writes);
-            return 1;
-        }
-        fuse++;
-    } while (last == CHART_CLOSED);
+        if (last != CHART_CLOSED || writes != fuse)
+            return printf("a session with a fuse of %lu counts %lu writes and ends with %d\n", (unsigned long)fuse, (unsigned long)writes, last), 1;
+    }
+    watch_all = 1;
 
     /* The openings that store the most rows, of one cell and of 64. */
-    for (int cells = 1; cells <= MOST_CELLS; cells += 63) {
+    for (int cells = 1; cells <= 64; cells += 63) {
+        fuse_now = calls = 0;
         format();
         begin();
-        for (int k = 0; k < 2047; k++) change(1, k % cells);
+        for (int k = 0; k < 2047; k++) calls = 0, change(1, k % cells);
         WATCHED(FORCE, chart_force(&store));
         WATCHED(OPEN, chart_open(&store, CHART_NO_FUSE));
     }
+#endif
     for (int call = 0; call < CALLS_THAT_STORE; call++)
         if (most_rows[call] == 0) return printf("no call of kind %d has stored a row\n", call), 1;
     return last != CHART_DONE;

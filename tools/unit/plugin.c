@@ -3,8 +3,7 @@
  *
  *   counts=FILE   instructions; cycles of a Cortex-M0; multiplications among the instructions; the most cycles from the first store of a row to its last, and
  *                 the same of a page
- *   stores=FILE   the units of log and charts in the order in which they are stored to, one entry for stores that follow one another in one unit: the number of
- *                 a row, from 1, or p and the number of a page
+ *   stores=FILE   the units of log and charts in the order in which they are stored to, in the form of units.h
  *
  * The cycles are those of ARM's manual (Cortex-M0 Technical Reference Manual, ARM DDI 0432, table of instruction timings), with no wait states and a multiplier
  * of one cycle.
@@ -14,6 +13,8 @@
 #include <stdio.h>
 #include <stdlib.h>
 #include <string.h>
+
+#include "units.h"
 
 /* QEMU's interface for plugins, version 1, as far as it is used here; Debian has no package with its header. */
 typedef uint64_t qemu_plugin_id_t;
@@ -35,12 +36,8 @@ const char *qemu_plugin_insn_symbol(const struct qemu_plugin_insn *);
 void qemu_plugin_register_vcpu_insn_exec_cb(struct qemu_plugin_insn *, at_instruction, int, void *);
 void qemu_plugin_register_vcpu_mem_cb(struct qemu_plugin_insn *, at_memory, int, int, void *);
 bool qemu_plugin_mem_is_store(qemu_plugin_meminfo_t);
+unsigned qemu_plugin_mem_size_shift(qemu_plugin_meminfo_t);
 __attribute__((visibility("default"))) int qemu_plugin_version = 1;
-
-#define LOG_LENGTH 65536u
-#define CHARTS_LENGTH 1024u
-#define ROW_LENGTH 16u
-#define PAGE_LENGTH 32u
 
 static FILE *counts, *stores;
 static bool on;
@@ -110,13 +107,12 @@ static void at_announcement(unsigned cpu, qemu_plugin_meminfo_t info, uint64_t a
 static void at_store(unsigned cpu, qemu_plugin_meminfo_t info, uint64_t address, void *data) {
     (void)cpu, (void)data;
     uint32_t in_log = (uint32_t)address - log_at, in_charts = (uint32_t)address - charts_at;
-    bool row = log_at && in_log < LOG_LENGTH, page = charts_at && in_charts < CHARTS_LENGTH;
+    bool row = log_at && in_log < UNIT_LOG_LENGTH, page = charts_at && in_charts < UNIT_CHARTS_LENGTH;
     if (!on || !(row || page) || !qemu_plugin_mem_is_store(info)) return;
-    uint32_t stored = row ? 1 + in_log / ROW_LENGTH : LOG_LENGTH + in_charts / PAGE_LENGTH;
-    if (stored != unit) {
-        unit = stored;
+    unit_stored(row ? in_log : UNIT_LOG_LENGTH + in_charts, 1u << qemu_plugin_mem_size_shift(info)); /* a Cortex-M0 has no store that is not aligned */
+    if (units[unit_count - 1].unit != unit) {
+        unit = units[unit_count - 1].unit;
         unit_began = cycles;
-        if (stores) fprintf(stores, row ? " %" PRIu32 : " p%" PRIu32, row ? unit : unit - LOG_LENGTH);
     }
     uint64_t *longest = row ? &longest_row : &longest_page;
     if (cycles - unit_began > *longest) *longest = cycles - unit_began;
@@ -130,6 +126,7 @@ static void at_begin(unsigned cpu, void *data) {
     instructions = cycles = multiplications = longest_row = longest_page = 0;
     last.kind = PLAIN;
     unit = no_unit;
+    units_begin();
 }
 
 static void at_end(unsigned cpu, void *data) {
@@ -137,7 +134,7 @@ static void at_end(unsigned cpu, void *data) {
     on = false;
     if (counts)
         fprintf(counts, "%" PRIu64 " %" PRIu64 " %" PRIu64 " %" PRIu64 " %" PRIu64 "\n", instructions, cycles, multiplications, longest_row, longest_page);
-    if (stores) fputs("\n", stores);
+    if (stores) units_end(stores);
 }
 
 static void translated(qemu_plugin_id_t id, struct qemu_plugin_tb *block) {

@@ -32,6 +32,7 @@ tools/unit/run.sh "$out/odd.c" || status=$?
 [ "$status" -eq 99 ] || { echo "tools/unit/test.sh: the model does not fault where an access is not aligned"; exit 1; }
 
 tools/unit/replay.sh
-tools/unit/order.sh
-tools/unit/test_order.sh
+tools/unit/order.sh host
+tools/unit/order.sh model
+tools/unit/test_order.sh model
 echo "tools/unit/test.sh: ok. The archive for the unit is made of the proved archive's own module; example, calls and order of the stored writes are the same on the model as on this machine"
