@@ -24,6 +24,7 @@ pub mod Force
 pub mod Adds
 pub mod HandOverAll
 pub mod HeldCells
+pub mod LaterRows
 pub mod Sound
 pub mod Openings
 pub mod Claims

@@ -1,14 +1,16 @@
 -- Document 02, L2, "Handing over a whole visit": what it says of the single hand-overs that a row of kind 7 stands for. No other definition needs these; the laws
 -- are in proofs/HandOverAll and proofs/HeldCells.
-use Prim.Native.Nat.{ℕ}
-use mathlib.Core.Bool.{Bool, true, _&&_}
+use Prim.Native.Nat.{ℕ, _+_}
+use mathlib.Core.Bool.{Bool, true, cond, _&&_}
 use mathlib.Core.Path.{_≡_}
 use mathlib.Core.List.{List, [], _∷_, map}
+use lib.Dec.{leb}
 use Rattle.book.specs.Lists.{In, keep, foldl, member, tabulate}
 use Rattle.book.specs.Limits.{cellLimit}
-use Rattle.book.specs.Rows.{Row, handOver, handOverAll, isCell}
+use Rattle.book.specs.Rows.{Row, begin, change, handOver, undo, commit, abort, handOverAll, isCell}
 use Rattle.book.specs.Ledger.{Change, Ledger, only, after}
-use Rattle.book.specs.Rules.{holdsAny, lawful, allowed}
+use Rattle.book.specs.Rules.{reserve, scopeFits, holdsAny, lawful, allowed}
+use Rattle.book.specs.Scopes.{Scope, scopesOf}
 use Rattle.book.specs.Calls.{Call}
 use Rattle.book.specs.Power.{Book}
 use Rattle.book.specs.Book.{refusal}
@@ -60,6 +62,48 @@ pub record MeansSingles (l : Ledger) (g r : ℕ) : Type 0 where
   pub follow : allLawful l (singles g r (heldCells l g)) ≡ true
   -- and they come to what the row of kind 7 comes to, but for the number of rows
   pub same : butRows (after l (handOverAll g r)) ≡ butRows (foldl after l (singles g r (heldCells l g)))
+
+-- ── After whatever rows follow ────────────────────────────────────────────────────────────────────────────────────────
+
+-- the single hand-overs take d rows more, so that row k, if it comes after the first n, is d higher
+abbrev pub numberAfter : ℕ → ℕ → ℕ → ℕ
+numberAfter n d k = cond (leb k n) k (k + d)
+
+-- a later row, which names a row by its number there if it is an undo row
+abbrev pub renumberedRow : (ℕ → ℕ) → Row → Row
+renumberedRow f (begin v) = begin v
+renumberedRow f (change v c a) = change v c a
+renumberedRow f (handOver g r c) = handOver g r c
+renumberedRow f (undo h c k a) = undo h c (f k) a
+renumberedRow f (commit v) = commit v
+renumberedRow f (abort v) = abort v
+renumberedRow f (handOverAll g r) = handOverAll g r
+
+abbrev pub renumberedChange : (ℕ → ℕ) → Change → Change
+renumberedChange f x =
+    record { row = f (x .row); maker = x .maker; cell = x .cell; amount = x .amount; holder = x .holder; handed = x .handed; scope = f (x .scope) }
+
+abbrev pub renumberedScope : (ℕ → ℕ) → Scope → Scope
+renumberedScope f s =
+    record { maker = s .maker; holder = s .holder; cell = s .cell; first = f (s .first); last = f (s .last); handed = s .handed; count = s .count }
+
+-- two ledgers that are the same but for the number of rows and for row numbers
+pub record Renumbered (f : ℕ → ℕ) (l m : Ledger) : Type 0 where
+  pub begun : m .begun ≡ l .begun
+  pub active : m .active ≡ l .active
+  pub committed : m .committed ≡ l .committed
+  pub undoing : m .undoing ≡ l .undoing
+  pub undone : m .undone ≡ map f (l .undone)
+  pub changes : m .changes ≡ map (renumberedChange f) (l .changes)
+
+-- 02: "Row rules, scopes and the sum over last holders then count kind 7 as all those single hand-overs": what the next row needs of visits, cells, holders and
+-- undo rows, of the sixteen visits, the scopes and the reserve, and the scopes in use
+pub record CountsAlike (f : ℕ → ℕ) (l m : Ledger) : Type 0 where
+  pub rules : (row : Row) → lawful m (renumberedRow f row) ≡ lawful l row
+  pub active : m .active ≡ l .active
+  pub fits : (v c : ℕ) → scopeFits m v c ≡ scopeFits l v c
+  pub reserve : reserve m ≡ reserve l
+  pub scopes : scopesOf m ≡ map (renumberedScope f) (scopesOf l)
 
 -- ── Accepted exactly where a single hand-over is ──────────────────────────────────────────────────────────────────────
 
