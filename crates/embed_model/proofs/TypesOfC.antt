@@ -42,6 +42,9 @@ cells-of-c c p = omega arith
 pub pages-of-c : (p : ℕ) → p ≤ 255 → OfC (Call.flush p ∷ [])
 pages-of-c p q = omega arith
 
+pub ends-of-amounts : OfC (Call.change 0 0 (pos 32767) ∷ Call.change 0 0 (negsuc 32767) ∷ [])
+ends-of-amounts = omega arith
+
 pub amounts-of-c : (a : ℕ) → a ≤ 32767 → OfC (Call.change 0 0 (pos a) ∷ Call.change 0 0 (negsuc a) ∷ [])
 amounts-of-c a p = rw (le-leb a 32767 p) (omega arith)
 
