@@ -113,7 +113,7 @@ unfolding computes
 log-of-cell-7-first = refl
 
 -- 63 rows wait before the two, so that the one that comes second stores a full tail, the other with it, and waits alone
-abbrev manyBefore : Fuse → List Event
+abbrev pub manyBefore : Fuse → List Event
 manyBefore f = threeVisits f ++ replicate 61 (calls true (Call.change 1 0 (pos 1)))
 
 pub later-one-waits : (bookAfter zeros formatted (manyBefore none ++ oneThenOther ofCell0 ofCell7 []) .waiting ≡ Row.handOver 2 1 7 ∷ []) ×
@@ -122,7 +122,7 @@ unfolding computes
 later-one-waits = (refl, refl)
 
 -- an opening at once, and both cells read
-abbrev openedAtOnce : List Event
+abbrev pub openedAtOnce : List Event
 openedAtOnce = opens true none ∷ map (calls true) (Call.read 0 ∷ Call.read 7 ∷ [])
 
 -- no power fails, and the opening finds just one of them: 63 changes are undone, and three visits aborted
@@ -144,9 +144,9 @@ unfolding computes
 none-kept = (refl, refl)
 
 -- the power fails in the second of them, which finds a full tail: after the begin rows 63 writes land, and the row of the first would have been the next
-pub cut-in-second : BothAccepted zeros (bookAfter zeros formatted (manyBefore (left 66))) ofCell0 ofCell7
+pub cut-in-second : (cells : ℕ → ℤ) → BothAccepted cells (bookAfter cells formatted (manyBefore (left 66))) ofCell0 ofCell7
 unfolding computes
-cut-in-second = record { apart = λ e. omega arith; first = refl; second = inr refl }
+cut-in-second cells = record { apart = λ e. omega arith; first = refl; second = inr refl }
 
 -- the opening finds the 63 changes and the three visits, in either order
 pub cut-in-second-answers :

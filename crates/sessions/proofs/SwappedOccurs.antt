@@ -1,16 +1,18 @@
 -- 02, L5 is not empty: where the book accepts two hand-overs, sessions with them occur in both orders.
-use Prim.Native.Nat.{ℕ}
+use Prim.Native.Nat.{ℕ, zero, suc}
 use native.Mathlib.Omega.{arith}
 use mathlib.Core.Bool.{Bool, true}
 use mathlib.Core.Path.{_≡_, subst}
 use mathlib.Core.List.{List, [], _∷_, _++_, map, head-eq-of-cons-eq}
-use lib.IntN.{ℤ}
+use lib.ListN.{replicate}
+use lib.IntN.{ℤ, pos}
 use Rattle.book.specs.Power.{Fuse, left, formatted}
-use Rattle.book.specs.Events.{Event, opens, bookAfter}
+use Rattle.book.specs.Calls.{Call}
+use Rattle.book.specs.Events.{Event, opens, calls, bookAfter}
 use Rattle.book.specs.Swapped.{Single, BothAccepted, oneThenOther}
 use Rattle.book.proofs.Sound.{TypedEvents, sound-formatted, sound-events}
 use Rattle.book.proofs.Swapped.{either-order}
-use Rattle.book.proofs.TwoOrders.{ofCell0, ofCell7, threeVisits, forced, accepted-in-order}
+use Rattle.book.proofs.TwoOrders.{ofCell0, ofCell7, threeVisits, forced, manyBefore, openedAtOnce, accepted-in-order, cut-in-second}
 use Rattle.state.specs.World.{World, rightLengths}
 use Rattle.state.specs.Contracts.{Answered, FormatPost, cellsOf}
 use Rattle.sessions.specs.Host.{Session, steps, eventOf, Host}
@@ -51,6 +53,16 @@ module _ (values : List ℤ) (given : World) (format : Answered) (post : FormatP
   example-occurs =
       both-orders-occur true (left 6) _ ofCell0 ofCell7 forced (tt, (tt, (tt, (tt, (tt, tt))))) (tt, (tt, (tt, (tt, (tt, (tt, (tt, (tt, (tt, tt)))))))))
       (accepted-in-order (cellsOf values) 3)
+
+  -- and one in which the power fails in the second of the two
+  pub cut-occurs :
+      Occurs (format .world) (manyBefore (left 66)) ofCell0 ofCell7 openedAtOnce × Occurs (format .world) (manyBefore (left 66)) ofCell7 ofCell0 openedAtOnce
+  cut-occurs = both-orders-occur true (left 66) _ ofCell0 ofCell7 openedAtOnce (tt, (tt, (tt, (tt, (tt, changes 61))))) (tt, (tt, (tt, tt)))
+      (cut-in-second (cellsOf values))
+    where
+      changes : (n : ℕ) → TypedEvents (replicate n (calls true (Call.change 1 0 (pos 1))))
+      changes zero = tt
+      changes (suc n) = (tt, changes n)
 
   -- for every list of sessions with two hand-overs that follow one another there is one with the same openings and calls but for the order of the two
   pub other-order-exists : (ss : List Session) → Host (format .world) true (steps ss) → (before : List Event) (h k : Single) (later : List Event)
