@@ -3,7 +3,7 @@
 use Prim.Native.Nat.{ℕ, suc, _+_, _≤_, _<_}
 use native.Mathlib.Omega.{arith}
 use mathlib.Core.Bool.{Bool, true, false, cond, not, _&&_, _||_}
-use mathlib.Core.Path.{_≡_, refl, ap, ap₂, sym, _∙_, subst}
+use mathlib.Core.Path.{_≡_, refl, ap, ap₂, sym, _∙_}
 use mathlib.Core.Logic.{_≢_}
 use mathlib.Core.List.{List, [], _∷_, _++_, map}
 use lib.ListN.{length, length-map}
@@ -13,13 +13,12 @@ use borrow.Author.Tests.{eqb-true, eqb-false, eq-eqb, ne-eqb, leb-true, leb-fals
 use Rattle.book.specs.Lists.{In, keep, any, member, foldl, eqZ}
 use Rattle.book.specs.Limits.{scopeLimit}
 use Rattle.book.specs.Rows.{Row, handOver, handOverAll}
-use Rattle.book.specs.Ledger.{Change, Ledger, continues, startsScope, scopeFrom, newChange, only, every, holds, given, pass, after, ledger}
+use Rattle.book.specs.Ledger.{Change, Ledger, continues, scopeFrom, newChange, only, every, holds, given, pass, after, ledger}
 use Rattle.book.specs.Rules.{isActive, isUndone, isOpenChange, openChanges, openHeld, just, reserve, startsInUse, scopesInUse, scopeFits, holdsAny, isFirst, lawful, allowedLog}
-use Rattle.book.specs.Scopes.{Scope, firstRow, standing, entryOf, scopesOf}
+use Rattle.book.specs.Scopes.{firstRow, standing, entryOf, scopesOf}
 use Rattle.book.specs.HandOverAll.{singles, HasHeld, numberAfter, renumberedRow, renumberedChange, renumberedScope, Renumbered, CountsAlike}
 use Rattle.book.proofs.Lists.{foldl-append, keep-map, keep-same, map-map, map-same, member-in}
 use Rattle.book.proofs.Logs.{ledger-append}
-use Rattle.book.proofs.Invariant.{Inv}
 use Rattle.book.proofs.InvariantKept.{inv-log, rows-length}
 use Rattle.book.proofs.Scoped.{scoped-log}
 use Rattle.book.proofs.HandOverAll.{hand-over-all-is-singles}
@@ -29,10 +28,6 @@ use Rattle.book.proofs.HandOverAll.{hand-over-all-is-singles}
 any-map : {A B : Type 0} (p : B → Bool) (f : A → B) (xs : List A) → any p (map f xs) ≡ any (λ x. p (f x)) xs
 any-map p f [] = refl
 any-map p f (x ∷ xs) = ap (λ (t : Bool). p (f x) || t) (any-map p f xs)
-
-any-same : {A : Type 0} (p q : A → Bool) (xs : List A) → ((x : A) → p x ≡ q x) → any p xs ≡ any q xs
-any-same p q [] e = refl
-any-same p q (x ∷ xs) e = ap₂ _||_ (e x) (any-same p q xs e)
 
 map-id : {A : Type 0} (f : A → A) (xs : List A) → ((x : A) → In x xs → f x ≡ x) → map f xs ≡ xs
 map-id {A = A} f xs e = map-same f (λ x. x) xs e ∙ same xs

@@ -17,7 +17,7 @@ use Rattle.book.proofs.MatchingBooks.{matching-pages}
 use Rattle.book.proofs.MatchingEvents.{Alongside, Same, same-event, same-writes}
 use Rattle.state.specs.World.{World, rightLengths}
 use Rattle.state.specs.Contracts.{withPage}
-use Rattle.sessions.specs.Host.{Called, Step, opened, called, writesOf, eventOf, worldAfterAll}
+use Rattle.sessions.specs.Host.{Step, opened, called, eventOf, worldAfterAll}
 use Rattle.sessions.specs.Demand3.{bookOf, Holds}
 use Rattle.sessions.proofs.Along.{book-append}
 use Rattle.sessions.proofs.Places.{writes-at}
