@@ -10,3 +10,4 @@ pub mod Settled
 pub mod Post
 pub mod ForwardByPages
 pub mod Formats
+pub mod Uses
