@@ -339,12 +339,12 @@ module _ (cells : ℕ → ℤ) (own : World) (o : Opening) (one two ch fl ho ab 
         (w .rows, w .undos ∙ one-open)
 
     -- `undone`, both ways: the change has an undo row, and is not in the sum
-    undone : (any (undoes 3) endRows ≡ true) ↔ (isKept (ledger endRows) made ≡ false)
-    undone = subst (λ (l : List Row). Logged l made → (any (undoes 3) l ≡ true) ↔ (isKept (ledger l) made ≡ false)) log-after
+    cut-undone-or-kept : (any (undoes 3) endRows ≡ true) ↔ (isKept (ledger endRows) made ≡ false)
+    cut-undone-or-kept = subst (λ (l : List Row). Logged l made → (any (undoes 3) l ≡ true) ↔ (isKept (ledger l) made ≡ false)) log-after
         (h .undone (take 8 cut) (drop 9 cut) o′ refl cut-ready made) (undone-once .0)
 
     pub cut-undone : (isKept (ledger endRows) made ≡ false) × (any (undoes 3) endRows ≡ true)
-    cut-undone = (undone .0 (undone-once .1), undone .1 (undone-once .2))
+    cut-undone = (cut-undone-or-kept .0 (undone-once .1), cut-undone-or-kept .1 (undone-once .2))
 
     -- `once`
     pub cut-once : (length (keep (undoes 3) endRows) ≤ 1) × (length (keep (aborts 2) endRows) ≤ 1)
