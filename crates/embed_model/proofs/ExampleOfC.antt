@@ -4,30 +4,35 @@ use Prim.Native.Nat.{ℕ}
 use native.Mathlib.Omega.{arith}
 use mathlib.Core.Bool.{true}
 use mathlib.Core.Path.{_≡_, refl, ap, sym, _∙_}
-use mathlib.Core.List.{List, [], _∷_, map, append-nil}
+use mathlib.Core.List.{List, [], _∷_, _++_, map, append-nil}
 use lib.ListN.{length, replicate}
 use lib.IntN.{ℤ, pos, negsuc}
 use borrow.Author.Tests.{eq-eqb}
 use Rattle.book.specs.Lists.{foldl}
 use Rattle.book.specs.Rows.{Row}
-use Rattle.book.specs.Power.{Fuse, left, formatted}
+use Rattle.book.specs.Ledger.{Change, given}
+use Rattle.book.specs.Power.{Fuse, left, rowsOf, formatted}
 use Rattle.book.specs.Book.{done, refusedBy}
 use Rattle.book.specs.Events.{Event, answers, bookAfter}
 use Rattle.book.specs.Writes.{Writes}
 use Rattle.book.specs.LogBytes.{logBytes}
+use Rattle.book.specs.Logs.{Logged, InSum}
 use Rattle.book.proofs.Example.{example}
 use Rattle.book.proofs.WorkedExamples.{computes}
 use Rattle.state.specs.World.{World, rightLengths}
 use Rattle.state.specs.Contracts.{cellsOf}
-use Rattle.sessions.specs.Host.{steps, answerOf, writesOf, eventOf, worldAfterAll}
-use Rattle.sessions.specs.Demand3.{Holds}
+use Rattle.sessions.specs.Host.{called, steps, answerOf, writesOf, eventOf, worldAfterAll}
+use Rattle.sessions.specs.Demand3.{Holds, bookOf, logOf}
+use Rattle.sessions.specs.Survives.{HandedOver}
 use Rattle.embed_model.specs.Arrays.{Arrays, worldIn}
 use Rattle.embed_model.specs.Packed.{answerIn}
 use Rattle.embed_model.specs.Host.{FormatMade, SessionMade, StepMade, stepsMade, sessionOfC, stepOf, afterStep, HostOfC}
 use Rattle.embed_model.specs.Demand.{Demand3OfC}
+use Rattle.embed_model.specs.Survives.{HandedOverSurvivesOfC}
 use Rattle.embed_model.specs.EveryList.{FuseOfC, SessionsOfC, AnyFormatOfC, EveryListOfC}
 use Rattle.embed_model.proofs.Arrays.{only-stored}
 use Rattle.embed_model.proofs.Demand.{after-world, same-steps, demand-3-of-c}
+use Rattle.embed_model.proofs.Survives.{handed-over-survives-of-c}
 use Rattle.embed_model.proofs.BookArrays.{zeros, zeros-long}
 use Rattle.embed_model.proofs.EveryList.{every-list-of-c, any-format-of-c}
 
@@ -87,3 +92,10 @@ module _ (format : FormatMade) (cells : format .cells ≡ noGrams) (zero : answe
           (example-holds-of-c .log (steps (map sessionOfC ss)) [] (sym (append-nil _)) ∙
           ap (λ (es : List Event). logBytes (bookAfter (cellsOf noGrams) formatted es .stored)) e),
     )
+
+    -- visit 1 hands its changes of cell 0 over to 2, which commits: each of them is in the sum in the end, with 2 as its holder
+    pub example-survives-of-c : (h : HandedOver 1 2 0 (steps (map sessionOfC ss))) (x : Change) → Logged (rowsOf (bookOf (cellsOf noGrams) (h .before))) x
+        → x .holder ≡ 1 → x .cell ≡ 0
+        → InSum (logOf (cellsOf noGrams) (h .before ++ (called (h .handOver) ∷ (h .between ++ (called (h .commit) ∷ h .later))))) (given 2 x)
+    unfolding HandedOverSurvivesOfC
+    example-survives-of-c h x l q c = (rw cells at (handed-over-survives-of-c format zero ss host)) 1 2 0 h x l q c (h .later) [] (sym (append-nil (h .later)))

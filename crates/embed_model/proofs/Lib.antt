@@ -2,6 +2,7 @@ pub mod Arrays
 pub mod Refused
 pub mod Freedom
 pub mod Demand
+pub mod Survives
 pub mod Swapped
 pub mod OpeningCost
 pub mod Below

@@ -5,6 +5,7 @@ pub mod PageOfC
 pub mod Host
 pub mod Freedom
 pub mod Demand
+pub mod Survives
 pub mod Swapped
 pub mod OpeningCost
 pub mod EveryList
