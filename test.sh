@@ -1,8 +1,8 @@
 #!/usr/bin/env bash
-# All tests: the layout of the files, what scripts write, what the papers cite, the header for C beside its source, where the source stores and goes by the fuse, every proof with the wrong
-# programs and the programs, where each wrong program is refused, the example in C, the order of the stores that the archive makes, the archive for the unit on a model of its processor (left
-# out, with a line that says so, where a package is missing), the comparison with the other implementations, and the workloads of the benchmark, whose results are compared and not measured.
-# The last line is the prover's own count; the exit status is not 0 when anything failed.
+# All tests: the layout of the files, what scripts write, what statements and contracts say, what the papers cite, the header for C beside its source, where the source stores and goes by the
+# fuse, every proof with the wrong programs and the programs, where each wrong program is refused, the example in C, the order of the stores that the archive makes, the archive for the unit on a
+# model of its processor (left out, with a line that says so, where a package is missing), the comparison with the other implementations, and the workloads of the benchmark, whose results are
+# compared and not measured. The last line is the prover's own count; the exit status is not 0 when anything failed.
 set -uo pipefail
 cd "$(dirname "$0")" || exit 1
 failed=0
@@ -13,6 +13,8 @@ rt fmt --check || failed=1
 tools/generated || failed=1
 tools/edits table --check docs/CLAIMS.md || failed=1
 tools/believed --check docs/CLAIMS.md || failed=1
+tools/contracts || failed=1
+tools/test_believed || failed=1
 tools/papers || failed=1
 tools/header/check.py || failed=1
 tools/header/mutants.py || failed=1
