@@ -1,2 +1,3 @@
 pub mod NextRow
+pub mod Digits
 pub mod OpenedLogs

@@ -1,2 +1,4 @@
 pub mod Log
+pub mod Argument
+pub mod Opened
 pub mod NextRow

@@ -7,7 +7,10 @@ ghost use Rattle.book.specs.RowBytes.{rowBytes};
 ghost use Rattle.rows.specs.Meaning.{meant};
 ghost use Rattle.journal.specs.Writes.{putRow};
 ghost use Rattle.costliest.specs.Log.{isWritten, logAfter};
+ghost use Rattle.costliest.specs.Argument.{asked, isWrittenFor, logFor};
 ghost use Rattle.costliest.specs.NextRow.{costliestRow};
+use crate::argument::Asked;
+use crate::argument::read_argument;
 use journal::writes::clear;
 use rows::Cell;
 use rows::Lsn;
@@ -56,4 +59,16 @@ pub fn write_log(log: &mut [u8], n: usize) -> bool
         k += 1;
     }
     true
+}
+
+// Writes the log that an argument asks for. One that asks for none leaves the log as it is.
+pub fn write_asked(log: &mut [u8], text: &[u8]) -> bool
+    ensures { λ r. ⌜ (r ≡ isWrittenFor (asked (now (text .entry))) (now (log .entry))) × (now (log .exit) ≡ logFor (asked (now (text .entry))) (now (log .entry))) ⌝ }
+{
+    let a = read_argument(text);
+    match a {
+        Asked::Nothing => false,
+        Asked::Number(n) => write_log(log, n),
+        Asked::Wrong => false,
+    }
 }

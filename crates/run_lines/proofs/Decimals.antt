@@ -61,11 +61,11 @@ digits-length (suc k) (suc j) n h =
     go true before = omega arith
     go false before = omega (arith, length-append (digitsOf k (n / 10)) (digit (n % 10) ∷ []))
 
-decimal-length : (j n : ℕ) → n < 10 ^ suc j → length (decimal n) ≤ suc j
+pub decimal-length : (j n : ℕ) → n < 10 ^ suc j → length (decimal n) ≤ suc j
 unfolding decimal
 decimal-length j n h = digits-length 9 j n h
 
-signed-length : (z : ℤ) → SFits w32 z → length (signedDecimal z) ≤ 11
+pub signed-length : (z : ℤ) → SFits w32 z → length (signedDecimal z) ≤ 11
 unfolding signedDecimal
 signed-length (pos n) h = omega (arith, decimal-length 9 n (omega (arith, h .sfits)))
 signed-length (negsuc n) h = omega (arith, decimal-length 9 (suc n) (omega (arith, h .sfits)))

@@ -52,7 +52,7 @@ fn put_next(out: &mut [u8], at: usize, n: u32) -> usize
 }
 
 // The value after a space.
-fn put_value(out: &mut [u8], at: usize, value: i32) -> usize
+pub fn put_value(out: &mut [u8], at: usize, value: i32) -> usize
     requires { ⌜ at + length (space ∷ signedDecimal value) ≤ length (now out) ⌝ }
     ensures { λ r. ⌜ Written (now (out .entry)) at (space ∷ signedDecimal value) r (now (out .exit)) ⌝ }
 {
@@ -96,7 +96,7 @@ fn magnitude(value: i32) -> u32
 }
 
 // The digits before the last are those of a tenth of the number.
-fn put_decimal(out: &mut [u8], at: usize, n: u32) -> usize
+pub fn put_decimal(out: &mut [u8], at: usize, n: u32) -> usize
     requires { ⌜ at + length (decimal n) ≤ length (now out) ⌝ }
     ensures { λ r. ⌜ Written (now (out .entry)) at (decimal n) r (now (out .exit)) ⌝ }
 {
