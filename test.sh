@@ -55,6 +55,7 @@ trap 'kill "$linking" 2>/dev/null; rm -rf "$room"' EXIT
 RT_JOBS=${RT_JOBS:-8} rt ci 2>&1 | tee "$room/ci" || failed=1
 touch "$room/ended"
 tools/edits || failed=1
+tools/costliest_logs || failed=1
 
 wait "$linking" || failed=1
 cat "$room/linked"

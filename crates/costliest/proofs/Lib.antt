@@ -1,3 +1,4 @@
 pub mod NextRow
 pub mod Digits
+pub mod Arguments
 pub mod OpenedLogs

@@ -13,11 +13,11 @@ use state::answers::value_of;
 pub const LINE_LENGTH: usize = 23;
 
 // n and the value of the answer, from the start of the buffer on. Gives the bytes of the line.
-pub fn put_line(out: &mut [u8], n: u32, answer: Answer) -> usize
+pub fn put_line(out: &mut [u8], n: u16, answer: Answer) -> usize
     requires { ⌜ lineLength ≤ length (now out) ⌝ }
     ensures { λ r. ⌜ Written (now (out .entry)) 0 (lineFor n answer) r (now (out .exit)) × Counts r (now (out .exit)) ⌝ }
 {
-    let a = put_decimal(out, 0, n);
+    let a = put_decimal(out, 0, n as u32);
     let e = put_value(out, a, value_of(answer));
     out[e] = b'\n';
     e + 1

@@ -39,14 +39,8 @@ fn opened(n: usize) -> Result
     write_log(&mut log, n);
     let closed = closed_state();
     let entries = blank();
-    let o = open_on(
-        closed,
-        &mut log,
-        &mut charts,
-        &mut copy,
-        entries,
-        Fuse::Left(n as u32),
-    );
+    let fuse = Fuse::Left(n as u32);
+    let o = open_on(closed, &mut log, &mut charts, &mut copy, entries, fuse);
     let r = o.result;
     r
 }
@@ -58,7 +52,7 @@ fn tell(out: &mut [u8], n: usize) -> usize
 {
     let r = opened(n);
     let answer = r.answer;
-    put_line(out, n as u32, answer)
+    put_line(out, n as u16, answer)
 }
 
 fn write_out(bytes: &[u8]) -> bool {
