@@ -113,7 +113,7 @@ def chunks(lines):
 
 def head_of_module(chunk):
     """The lines up to the one that ends in `where`."""
-    end = next(k for k, line in enumerate(chunk) if plain(line).endswith(' where'))
+    end = next(k for k, line in enumerate(chunk) if plain(line).split()[-1:] == ['where'])
     return chunk[:end + 1], chunk[end + 1:]
 
 
