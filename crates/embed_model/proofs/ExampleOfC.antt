@@ -23,7 +23,7 @@ use Rattle.state.specs.World.{World, rightLengths}
 use Rattle.state.specs.Contracts.{cellsOf}
 use Rattle.sessions.specs.Host.{called, steps, answerOf, writesOf, eventOf, worldAfterAll}
 use Rattle.sessions.specs.Demand3.{Holds, bookOf, logOf}
-use Rattle.sessions.specs.Survives.{HandedOver}
+use Rattle.sessions.specs.Survives.{HandedOver, Survives}
 use Rattle.embed_model.specs.Arrays.{Arrays, worldIn}
 use Rattle.embed_model.specs.Packed.{answerIn}
 use Rattle.embed_model.specs.Host.{FormatMade, SessionMade, StepMade, stepsMade, sessionOfC, stepOf, afterStep, HostOfC}
@@ -98,4 +98,6 @@ module _ (format : FormatMade) (cells : format .cells ≡ noGrams) (zero : answe
         → x .holder ≡ 1 → x .cell ≡ 0
         → InSum (logOf (cellsOf noGrams) (h .before ++ (called (h .handOver) ∷ (h .between ++ (called (h .commit) ∷ h .later))))) (given 2 x)
     unfolding HandedOverSurvivesOfC
-    example-survives-of-c h x l q c = (rw cells at (handed-over-survives-of-c format zero ss host)) 1 2 0 h x l q c (h .later) [] (sym (append-nil (h .later)))
+    example-survives-of-c h x l q c =
+        let every : Survives (cellsOf noGrams) (steps (map sessionOfC ss)) = rw cells at (handed-over-survives-of-c format zero ss host) in
+        every 1 2 0 h x l q c (h .later) [] (sym (append-nil (h .later)))
