@@ -25,7 +25,7 @@ use Rattle.state.specs.declared.answers.Answer.{Answer}
 use Rattle.state.specs.declared.answers.Answer.the-variants.{Done, Visit, Row, Grams, Wrote, WrongLength, Closed, VisitsUsedUp, TooManyActive, NoRoom, NotActive, NoSuchCell, ScopesUsedUp, SameVisit, HoldsNone, NoSuchPage}
 use Rattle.state.specs.declared.requests.Request.{Request}
 use Rattle.state.specs.declared.requests.Request.the-variants.{Begin, Change, HandOver, Commit, Abort, Force, Flush, Read, HandOverAll}
-use Rattle.state.specs.Answers.{numberAndValue, Case, written, nothing, doneCase, HasCase, caseOf, refusal}
+use Rattle.state.specs.Answers.{numberAndValue, Case, written, doneCase, HasCase}
 use Rattle.state.specs.Requests.{callOf}
 use Rattle.state.specs.World.{World, rightLengths, fuseOf, allowance, cleared}
 use Rattle.state.specs.Contracts.{Answered, Returned, returned, answeredBy, answered, badCell, cellsOf, formats, numbers, OpenPost, CallPost}
@@ -36,7 +36,7 @@ use Rattle.sessions.specs.Demand3.{Demand3}
 use Rattle.sessions.specs.Made.{FormatCall, OpenCall, OtherCall, Made, calledBy, sessionOf}
 use Rattle.sessions.specs.EveryList.{EventsOfCalls, SessionsOfCalls, AnyFormat, EveryListOfCalls}
 use Rattle.sessions.proofs.Demand3.{demand-3}
-use Rattle.sessions.proofs.EveryList.{Lawful, every-list}
+use Rattle.sessions.proofs.EveryList.{every-list}
 
 -- ── Answers ───────────────────────────────────────────────────────────────────────────────────────────────────────────
 

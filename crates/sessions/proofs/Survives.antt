@@ -1,7 +1,7 @@
 -- What was handed over survives if the receiver commits (specs/Survives).
 use Prim.Native.Nat.{ℕ, suc}
 use native.Mathlib.Omega.{arith}
-use mathlib.Core.Path.{_≡_, refl, ap, ap₂, sym, _∙_, subst}
+use mathlib.Core.Path.{_≡_, refl, ap, sym, _∙_, subst}
 use mathlib.Core.Bool.{Bool, true, false, _&&_, _||_}
 use mathlib.Core.Logic.{_⊎_, inl, inr}
 use mathlib.Core.List.{List, [], _∷_, _++_, map, map-append, append-assoc, head-eq-of-cons-eq, tail-eq-of-cons-eq, Memᴰ·map, Memᴰ·cast}
@@ -10,25 +10,25 @@ use lib.Dec.{eqb}
 use borrow.Author.Tests.{eq-eqb}
 use Rattle.book.specs.Lists.{In, any, keep, foldl}
 use Rattle.book.specs.Rows.{Row}
-use Rattle.book.specs.Ledger.{Change, Ledger, only, every, given, pass, after, ledger}
+use Rattle.book.specs.Ledger.{Change, Ledger, only, every, given, pass, after}
 use Rattle.book.specs.Rules.{openHeld, just}
 use Rattle.book.specs.Calls.{Call}
 use Rattle.book.specs.Power.{Book, rowsOf, ledgerOf, formatted}
 use Rattle.book.specs.Book.{undoOf, takeBack, adds, through, value, Answer, Outcome, ended, call, opening}
-use Rattle.book.specs.Events.{Event, opens, calls, happens, answers, bookAfter}
+use Rattle.book.specs.Events.{happens, answers, bookAfter}
 use Rattle.book.specs.SessionWrites.{NoStart}
 use Rattle.book.specs.Logs.{Logged, InSum, Sound}
 use Rattle.book.proofs.Lists.{clash, and-i, foldl-append, there}
 use Rattle.book.proofs.Logs.{ledger-append}
 use Rattle.book.proofs.Steps.{extends-through}
 use Rattle.book.proofs.Sound.{TypedEvents, ended-book, Decided, refuses, accepts, decided, sound-formatted, sound-event, sound-events}
-use Rattle.book.proofs.Openings.{ended-open, ended-done}
+use Rattle.book.proofs.Openings.{ended-done}
 use Rattle.state.specs.World.{World, rightLengths}
 use Rattle.state.specs.Contracts.{answeredBy, cellsOf}
 use Rattle.sessions.specs.Host.{Called, Step, opened, called, steps, answerOf, eventOf}
 use Rattle.sessions.specs.Demand3.{bookOf, logOf, Holds, Demand3}
 use Rattle.sessions.specs.Made.{sessionOf}
-use Rattle.sessions.specs.Survives.{gives, gave, HandedOver, Survives, HandedOverSurvives, HandedOverSurvivesOfCalls}
+use Rattle.sessions.specs.Survives.{gives, gave, Survives, HandedOverSurvives, HandedOverSurvivesOfCalls}
 use Rattle.sessions.proofs.Along.{book-append}
 use Rattle.sessions.proofs.Demand3.{demand-3}
 use Rattle.sessions.proofs.Places.{answer-at, typed-parts, steps-typed}

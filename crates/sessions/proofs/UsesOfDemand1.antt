@@ -10,11 +10,11 @@ use lib.IntN.{ℤ, pos}
 use Rattle.book.specs.Lists.{member}
 use Rattle.book.specs.Calls.{Call}
 use Rattle.book.specs.Power.{Fuse}
-use Rattle.book.specs.Writes.{Writes, noWrites}
+use Rattle.book.specs.Writes.{noWrites}
 use Rattle.book.proofs.Lists.{clash}
 use Rattle.state.specs.World.{World, works, closedState, cleared}
-use Rattle.state.specs.Contracts.{Answered, answered, failedAfter, FormatPost, OpenPost, CallPost, numbers}
-use Rattle.sessions.specs.Demand1.{formatNumbers, openNumbers, FormatAnswers, OpenAnswers, CallAnswers, Demand1}
+use Rattle.state.specs.Contracts.{Answered, FormatPost, OpenPost, CallPost, numbers}
+use Rattle.sessions.specs.Demand1.{formatNumbers, openNumbers, FormatAnswers, OpenAnswers, CallAnswers}
 use Rattle.sessions.proofs.Demand1.{demand-1}
 
 -- a number that the list does not have

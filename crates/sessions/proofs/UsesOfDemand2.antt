@@ -14,7 +14,7 @@ use Rattle.book.specs.Rows.{Row}
 use Rattle.book.specs.Ledger.{ledger}
 use Rattle.book.specs.Calls.{Call}
 use Rattle.book.specs.Power.{Book, Fuse, none, left, rowsOf}
-use Rattle.book.specs.Book.{Answer, answer, done, closing, adds, call, reopen}
+use Rattle.book.specs.Book.{Answer, answer, done, closing, call, reopen}
 use Rattle.book.specs.Numbers.{AreBytes}
 use Rattle.book.specs.LogBytes.{rowsBytes, logBytes}
 use Rattle.book.specs.Opening.{badPage}
@@ -23,7 +23,7 @@ use Rattle.book.proofs.Lists.{clash, is-false}
 use Rattle.book.proofs.WorkedExamples.{computes}
 use Rattle.state.specs.World.{World, rightLengths, LogIs, tailLength, cleared, Represents}
 use Rattle.state.specs.Contracts.{Answered, OpenPost, CallPost}
-use Rattle.sessions.specs.Demand2.{HasRows, Landed, WritesRows, Reads, Demand2}
+use Rattle.sessions.specs.Demand2.{HasRows, WritesRows, Reads}
 use Rattle.sessions.proofs.Demand2.{demand-2}
 use Rattle.sessions.proofs.UsesOfDemand3.{begun, others, keptRows, cutRows, endRows}
 

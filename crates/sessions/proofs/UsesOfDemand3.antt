@@ -67,6 +67,9 @@ number-of e = cc
 sum-of : {n m : ℕ} → 0 + n ≡ m → n ≡ m
 sum-of e = omega arith
 
+nothing-more : {n m k : ℕ} → n ≡ m + k → n ≡ 6 → m ≡ 6 → k ≡ 0
+nothing-more e n m = omega arith
+
 -- ── By the book ───────────────────────────────────────────────────────────────────────────────────────────────────────
 
 -- the change as visit 1 made it, and as it is after the hand-over
@@ -305,6 +308,12 @@ module _ (cells : ℕ → ℤ) (own : World) (o : Opening) (one two ch ho ab co 
         let runs = ap (λ (es : List Event). bookAfter cells formatted (take 7 es) .isOpen) are ∙ open-kept cells .0 in
         let spent = ap (λ (es : List Event). bookAfter cells formatted (take 7 es) .fuse) are ∙ open-kept cells .1 in
         sym (ap fuseIn (event 0)) ∙ counted .fuse .held runs ∙ ap (moreBy (together (summed (map writesOf (take 7 kept))))) spent
+
+    -- the second session stores nothing
+    pub kept-second-session : summed (map writesOf (drop 7 kept)) .rows ≡ 0
+    kept-second-session =
+        nothing-more (h .session (take 7 kept) (drop 8 kept) [] o′ refl (ap lengthsIn (event 7)) (refl, tt) .rows) (ap length log-end)
+        (ap (λ (es : List Event). length (bookAfter cells formatted (take 7 es) .stored)) are ∙ ap length (stored-kept cells .1))
 
 -- ── The page flushed, the commit cut ──────────────────────────────────────────────────────────────────────────────────
 

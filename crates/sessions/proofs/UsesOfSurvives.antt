@@ -3,27 +3,27 @@
 use Prim.Native.Nat.{ℕ}
 use native.Mathlib.Omega.{arith}
 use mathlib.Core.Path.{_≡_, refl, ap, sym, _∙_, subst}
-use mathlib.Core.Bool.{Bool, true, false, _&&_}
+use mathlib.Core.Bool.{true, false}
 use mathlib.Core.Logic.{inl, inr}
-use mathlib.Core.List.{List, [], _∷_, _++_, map, head-eq-of-cons-eq, tail-eq-of-cons-eq}
+use mathlib.Core.List.{List, [], _∷_, map, head-eq-of-cons-eq, tail-eq-of-cons-eq}
 use lib.ListN.{getD, take, drop}
-use lib.IntN.{ℤ, pos, negsuc, _+ℤ_}
-use lib.Dec.{eqb}
+use lib.IntN.{ℤ, negsuc, _+ℤ_}
 use Rattle.book.specs.Lists.{any}
 use Rattle.book.specs.Rows.{Row}
+use Rattle.book.specs.Cells.{keptSum}
 use Rattle.book.specs.Calls.{Call}
 use Rattle.book.specs.Power.{none, left, rowsOf, formatted}
 use Rattle.book.specs.Book.{Answer}
 use Rattle.book.specs.Events.{Event, opens, calls, answers, bookAfter}
+use Rattle.book.specs.Pages.{cellOf}
 use Rattle.book.specs.Logs.{Logged, InSum}
 use Rattle.book.proofs.Lists.{here}
-use Rattle.book.proofs.Sound.{TypedEvents}
 use Rattle.book.proofs.WorkedExamples.{computes}
 use Rattle.book.proofs.Example.{example}
 use Rattle.state.specs.World.{World}
 use Rattle.state.specs.Contracts.{answeredBy, cellsOf}
-use Rattle.sessions.specs.Host.{Opening, Called, Step, opened, called, steps, answerOf, eventOf, Host}
-use Rattle.sessions.specs.Demand3.{bookOf, logOf, Holds}
+use Rattle.sessions.specs.Host.{Opening, Called, Step, opened, called, steps, answerOf, eventOf, worldAfterAll, Host}
+use Rattle.sessions.specs.Demand3.{logOf, Holds}
 use Rattle.sessions.specs.Made.{FormatCall, Made, sessionOf, Demand3OfCalls}
 use Rattle.sessions.specs.Survives.{gave, HandedOver, Survives, HandedOverSurvivesOfCalls}
 use Rattle.sessions.specs.EveryList.{SessionsOfCalls, EveryListOfCalls}
@@ -31,7 +31,7 @@ use Rattle.sessions.proofs.Made.{demand-3-of-calls}
 use Rattle.sessions.proofs.Places.{no-events, no-opening}
 use Rattle.sessions.proofs.Survives.{handed-over-survives-of-calls}
 use Rattle.sessions.proofs.EveryListMade.{every-list-of-calls}
-use Rattle.sessions.proofs.UsesOfDemand3.{nth, askedIn, made, handed, keptRows, kept, event, number, log-end}
+use Rattle.sessions.proofs.UsesOfDemand3.{nth, askedIn, made, handed, keptRows, kept, event, number, log-end, kept-cells}
 
 -- ── Visit 1 hands the cell over and aborts, visit 2 commits ───────────────────────────────────────────────────────────
 
@@ -96,6 +96,10 @@ module _ (cells : ℕ → ℤ) where
   unfolding computes
   whole-stored = refl
 
+  whole-sum : keptSum cells wholeRows 0 ≡ cells 0 +ℤ negsuc 199
+  unfolding computes keptSum
+  whole-sum = refl
+
   whole-held : Logged (rowsOf (bookAfter cells formatted (take 4 wholeEvents))) made
   unfolding computes
   whole-held = here
@@ -111,6 +115,12 @@ module _ (cells : ℕ → ℤ) (own : World) (o : Opening) (one two ch ho co ab 
     done-at : (n : ℕ) → getD (map (λ (a : Answer). a .number) (map answerOf whole)) n 1 ≡ getD (0 ∷ 0 ∷ 0 ∷ 0 ∷ 0 ∷ 0 ∷ 0 ∷ 0 ∷ []) n 1
     done-at n = ap (λ (l : List ℕ). getD l n 1)
         (ap (map (λ (a : Answer). a .number)) (h .answers ∙ ap (answers cells formatted) are) ∙ whole-numbers cells)
+
+    log-whole : logOf cells whole ≡ wholeRows
+    log-whole = ap (λ (es : List Event). bookAfter cells formatted es .stored) are ∙ whole-stored cells
+
+    pub whole-cell : cellOf (worldAfterAll own whole .copy) 0 ≡ cells 0 +ℤ negsuc 199
+    whole-cell = h .sums (take 7 whole) [] o′ refl (done-at 7) 0 (omega arith) ∙ ap (λ (l : List Row). keptSum cells l 0) log-whole ∙ whole-sum cells
 
     abbrev wholeThenAborted : HandedOver 1 2 0 whole
     wholeThenAborted = record {
@@ -131,7 +141,7 @@ module _ (cells : ℕ → ℤ) (own : World) (o : Opening) (one two ch ho co ab 
     -- the change is in the sum in the end, after the abort and another opening
     pub survives-a-later-abort : Survives cells whole → InSum wholeRows handed
     survives-a-later-abort s =
-        subst (λ (l : List Row). InSum l handed) (ap (λ (es : List Event). bookAfter cells formatted es .stored) are ∙ whole-stored cells)
+        subst (λ (l : List Row). InSum l handed) log-whole
         (s 1 2 0 wholeThenAborted made
         (subst (λ (es : List Event). Logged (rowsOf (bookAfter cells formatted (take 4 es))) made) (sym are) (whole-held cells)) refl refl (drop 6 whole) [] refl)
 
@@ -162,12 +172,14 @@ is-built [] ss s = s
 is-built (opens lengths f ∷ es) ss s = s .2 ∙ ap (λ (l : List Step). opened (s .0) ∷ l) (is-built es (s .1) (s .3))
 is-built (calls lengths k ∷ es) ss s = s .2 ∙ ap (λ (l : List Step). called (s .0) ∷ l) (is-built es (s .1) (s .3))
 
--- sessions made with the public functions in which this happens, and what is in their sum in the end
+-- sessions made with the public functions in which this happens, what is in their sum in the end, and cell 0 after the second opening
 pub record Happens (format : FormatCall) (es : List Event) (rs : List Row) : Type 0 where
   pub sessions : SessionsOfCalls (answeredBy (format .return) .world) es
   pub over : HandedOver 1 2 0 (steps (map sessionOf (sessions .sessions)))
   pub log : logOf (cellsOf (format .cells)) (steps (map sessionOf (sessions .sessions))) ≡ rs
   pub sum : InSum rs handed
+  pub cell : cellOf (worldAfterAll (answeredBy (format .return) .world) (take 8 (steps (map sessionOf (sessions .sessions)))) .copy) 0 ≡
+      cellsOf (format .cells) 0 +ℤ negsuc 199
 
 module _ (format : FormatCall) (done : answeredBy (format .return) .answer .number ≡ 0) where
   abbrev formattedCells : ℕ → ℤ
@@ -201,6 +213,8 @@ module _ (format : FormatCall) (done : answeredBy (format .return) .answer .numb
         log = ap (λ (es : List Event). bookAfter formattedCells formatted es .stored) (l .events) ∙ kept-in-the-end formattedCells;
         sum = survives-the-abort formattedCells ownWorld (s .0) (s .3 .0) (s .3 .3 .0) (two-on .0) (two-on .3 .0) (two-on .3 .3 .0) (two-on .3 .3 .3 .0) (end .0) (end .3 .0) e h
             (subst (Survives formattedCells) q (they-survive (l .sessions) (l .host)));
+        cell = subst (λ (x : List Step). cellOf (worldAfterAll ownWorld (take 8 x) .copy) 0 ≡ formattedCells 0 +ℤ negsuc 199) (sym q)
+            (kept-cells formattedCells ownWorld (s .0) (s .3 .0) (s .3 .3 .0) (two-on .0) (two-on .3 .0) (two-on .3 .3 .0) (two-on .3 .3 .3 .0) (end .0) (end .3 .0) e h .0);
       }
 
   pub whole-visit-happens : Happens format wholeEvents wholeRows
@@ -219,4 +233,6 @@ module _ (format : FormatCall) (done : answeredBy (format .return) .answer .numb
         log = ap (λ (es : List Event). bookAfter formattedCells formatted es .stored) (l .events) ∙ whole-stored formattedCells;
         sum = survives-a-later-abort formattedCells ownWorld (s .0) (s .3 .0) (s .3 .3 .0) (two-on .0) (two-on .3 .0) (two-on .3 .3 .0) (two-on .3 .3 .3 .0) (two-on .3 .3 .3 .3 .0) e h
             (subst (Survives formattedCells) q (they-survive (l .sessions) (l .host)));
+        cell = subst (λ (x : List Step). cellOf (worldAfterAll ownWorld (take 8 x) .copy) 0 ≡ formattedCells 0 +ℤ negsuc 199) (sym q)
+            (whole-cell formattedCells ownWorld (s .0) (s .3 .0) (s .3 .3 .0) (two-on .0) (two-on .3 .0) (two-on .3 .3 .0) (two-on .3 .3 .3 .0) (two-on .3 .3 .3 .3 .0) e h);
       }
