@@ -6,7 +6,7 @@ use native.Mathlib.Omega.{arith}
 use mathlib.Core.Path.{_≡_, refl, ap, sym, _∙_, subst}
 use mathlib.Core.Bool.{Bool, true, false}
 use mathlib.Core.Logic.{_≢_, _↔_}
-use mathlib.Core.List.{List, [], _∷_, _++_, map, append-cancel-left}
+use mathlib.Core.List.{List, [], _∷_, _++_, map, append-nil, append-cancel-left}
 use lib.ListN.{length, getD, take, drop}
 use lib.IntN.{ℤ, pos, negsuc, _+ℤ_}
 use Rattle.book.specs.Lists.{any, keep}
@@ -15,11 +15,11 @@ use Rattle.book.specs.Ledger.{Change, ledger}
 use Rattle.book.specs.Rules.{openChanges}
 use Rattle.book.specs.Cells.{isKept, keptSum}
 use Rattle.book.specs.Calls.{Call}
-use Rattle.book.specs.Power.{Fuse, left, PowerHolds, rowsOf, formatted}
+use Rattle.book.specs.Power.{Fuse, none, left, PowerHolds, rowsOf, formatted}
 use Rattle.book.specs.Book.{Answer, answer, closing, done, refusedBy}
 use Rattle.book.specs.Events.{Event, opens, calls, answers, bookAfter}
-use Rattle.book.specs.Writes.{Writes}
-use Rattle.book.specs.SessionWrites.{writes, summed, together, moreBy, SessionCounts}
+use Rattle.book.specs.Writes.{Writes, noWrites}
+use Rattle.book.specs.SessionWrites.{writes, summed, together, moreBy, NoStart, SessionCounts}
 use Rattle.book.specs.LogBytes.{logBytes}
 use Rattle.book.specs.Pages.{cellOf, rowAt, pageBytes, pageAfter}
 use Rattle.book.specs.Logs.{Logged, InSum, undoes, aborts, Once}
@@ -167,6 +167,12 @@ module _ (cells : ℕ → ℤ) where
       (bookAfter cells formatted (take 8 cutEvents) .isOpen ≡ false) × (bookAfter cells formatted (take 9 cutEvents) .stored ≡ endRows)
   unfolding computes
   rows-cut = (refl, refl, refl, refl)
+
+  -- the fuse before and after the begins, the change and the flush
+  stretch-of-cut : (bookAfter cells formatted (take 1 cutEvents) .isOpen ≡ true) × (bookAfter cells formatted (take 1 cutEvents) .fuse ≡ left 4) ×
+      (bookAfter cells formatted (take 5 cutEvents) .isOpen ≡ true) × (bookAfter cells formatted (take 5 cutEvents) .fuse ≡ left 0)
+  unfolding computes
+  stretch-of-cut = (refl, refl, refl, refl)
 
 three-rows : PowerHolds (left 3) (length (closing (ledger cutRows)))
 unfolding computes
@@ -391,3 +397,31 @@ module _ (cells : ℕ → ℤ) (own : World) (o : Opening) (one two ch fl ho ab 
       sym (cut-counted .pages) ∙ ap (λ (ws : List Writes). summed (take 8 ws) .pages) cut-counts,
       sym (ap fuseIn (cut-event 0)) ∙ cut-counted .fuse .burnt (ap (λ (es : List Event). bookAfter cells formatted (take 8 es) .isOpen) are ∙ rows-cut cells .2),
     )
+
+    -- `stretch`: the begins, the change and the flush take the whole fuse, for three rows and a page; the hand-over and the abort after them take nothing of it
+    stretch-counted : SessionCounts (bookOf cells (take 1 cut) .fuse) (logOf cells (take 1 cut)) (summed (map writesOf (take 4 (drop 1 cut))))
+        (length (keep isFlushDone (take 4 (drop 1 cut)))) (bookOf cells (take 5 cut))
+    stretch-counted = h .stretch (take 1 cut) (take 4 (drop 1 cut)) (drop 5 cut) refl (refl, (refl, (refl, (refl, tt)))) .running
+        (ap (λ (es : List Event). bookAfter cells formatted (take 1 es) .isOpen) are ∙ stretch-of-cut cells .0)
+
+    pub cut-stretch : (length (logOf cells (take 5 cut)) ≡ length (logOf cells (take 1 cut)) + summed (map writesOf (take 4 (drop 1 cut))) .rows) ×
+        (summed (map writesOf (take 4 (drop 1 cut))) .pages ≡ length (keep isFlushDone (take 4 (drop 1 cut)))) ×
+        (left 4 ≡ moreBy (together (summed (map writesOf (take 4 (drop 1 cut))))) (left 0))
+    cut-stretch =
+        let given = ap (λ (es : List Event). bookAfter cells formatted (take 1 es) .fuse) are ∙ stretch-of-cut cells .1 in
+        let runs = ap (λ (es : List Event). bookAfter cells formatted (take 5 es) .isOpen) are ∙ stretch-of-cut cells .2 in
+        let spent = ap (λ (es : List Event). bookAfter cells formatted (take 5 es) .fuse) are ∙ stretch-of-cut cells .3 in
+        (
+          stretch-counted .rows,
+          stretch-counted .pages,
+          sym given ∙ stretch-counted .fuse .held runs ∙ ap (moreBy (together (summed (map writesOf (take 4 (drop 1 cut)))))) spent,
+        )
+
+-- ── A store that stays closed ─────────────────────────────────────────────────────────────────────────────────────────
+
+-- an opening that is lent a buffer of another length, right after the format, and a begin: `stretch` says that nothing is stored
+module _ (cells : ℕ → ℤ) (own : World) (o : Opening) (c : Called) (h : Holds cells own (opened o ∷ called c ∷ []))
+    (are : map eventOf (opened o ∷ called c ∷ []) ≡ opens false none ∷ calls true Call.begin ∷ []) where
+  pub closed-stretch : (summed (map writesOf (opened o ∷ called c ∷ [])) ≡ noWrites) × (length (keep isFlushDone (opened o ∷ called c ∷ [])) ≡ 0) ×
+      (bookOf cells (opened o ∷ called c ∷ []) ≡ formatted)
+  closed-stretch = h .stretch [] (opened o ∷ called c ∷ []) [] (sym (append-nil _)) (subst NoStart (sym are) (refl, (refl, tt))) .idle refl

@@ -2,9 +2,9 @@
 -- more calls. A field that said less would not give it.
 use Prim.Native.Nat.{ℕ}
 use native.Mathlib.Omega.{arith}
-use mathlib.Core.Path.{_≡_, refl, ap, _∙_}
+use mathlib.Core.Path.{_≡_, refl, ap, sym, _∙_}
 use mathlib.Core.Logic.{_≢_}
-use mathlib.Core.List.{List, [], _∷_, _++_, map}
+use mathlib.Core.List.{List, [], _∷_, _++_, map, append-nil}
 use lib.ListN.{length}
 use lib.IntN.{pos}
 use Rattle.book.specs.Calls.{Call}
@@ -15,7 +15,7 @@ use Rattle.book.specs.Events.{Event, answers}
 use Rattle.book.specs.Writes.{Writes}
 use Rattle.book.specs.SessionWrites.{writes}
 use Rattle.book.specs.Pages.{cellOf}
-use Rattle.book.specs.Swapped.{oneThenOther}
+use Rattle.book.specs.Swapped.{DoneOrCut, oneThenOther}
 use Rattle.book.proofs.WorkedExamples.{computes}
 use Rattle.book.proofs.TwoOrders.{ofCell0, ofCell7, threeVisits, forced}
 use Rattle.state.specs.World.{World}
@@ -42,8 +42,8 @@ unfolding computes
 by-book = (refl, refl)
 
 module _ (own : World) (ss ss′ : List Step) (same : SameResults own (threeVisits (left 6)) ofCell0 ofCell7 forced ss ss′) where
-  -- `accepted`: the hand-over of cell 7, then that of cell 0, where they were; both are done
-  pub swapped-accepted : (same .accepted .two .c .result .answer .number ≡ 0) × (same .accepted .two .d .result .answer .number ≡ 0) ×
+  -- `accepted`: the hand-over of cell 7, then that of cell 0, where they were; the first is done, and the second done or cut
+  pub swapped-accepted : (same .accepted .two .c .result .answer .number ≡ 0) × DoneOrCut (same .accepted .two .d .result .answer .number) ×
       (same .accepted .two .c .call ≡ Call.handOver 2 1 7) × (same .accepted .two .d .call ≡ Call.handOver 1 3 0) ×
       (map eventOf (same .accepted .two .xs) ≡ threeVisits (left 6)) × (map eventOf (same .accepted .two .ys) ≡ forced) ×
       (ss′ ≡ same .accepted .two .xs ++ (called (same .accepted .two .c) ∷ called (same .accepted .two .d) ∷ same .accepted .two .ys)) × (_≢_ {A = ℕ} 7 0)
@@ -76,4 +76,22 @@ module _ (own : World) (ss ss′ : List Step) (same : SameResults own (threeVisi
   swapped-cells xs ys xs′ ys′ o o′ e e′ n z = (
     same .cells xs ys xs′ ys′ o o′ e e′ n z 0 (omega arith),
     same .cells xs ys xs′ ys′ o o′ e e′ n z 223 (omega arith),
+  )
+
+  -- `charts`: before all steps, and after them
+  pub swapped-charts : length ss′ ≡ length ss →
+      (worldAfterAll own ss′ .charts ≡ worldAfterAll own ss .charts) ×
+      ((x x′ : Step) (xs xs′ : List Step) → ss ≡ x ∷ xs → ss′ ≡ x′ ∷ xs′ → worldAfterAll own (x′ ∷ []) .charts ≡ worldAfterAll own (x ∷ []) .charts)
+  swapped-charts n = (
+    same .charts ss [] ss′ [] (sym (append-nil ss)) (sym (append-nil ss′)) n,
+    λ x x′ xs xs′ e e′. same .charts (x ∷ []) xs (x′ ∷ []) xs′ e e′ refl,
+  )
+
+  -- `logs`: the same, where the power fails in the second
+  pub swapped-logs : same .accepted .two .d .result .answer .number ≡ 5 → length ss′ ≡ length ss →
+      (worldAfterAll own ss′ .log ≡ worldAfterAll own ss .log) ×
+      ((x x′ : Step) (xs xs′ : List Step) → ss ≡ x ∷ xs → ss′ ≡ x′ ∷ xs′ → worldAfterAll own (x′ ∷ []) .log ≡ worldAfterAll own (x ∷ []) .log)
+  swapped-logs five n = (
+    same .logs five ss [] ss′ [] (sym (append-nil ss)) (sym (append-nil ss′)) n,
+    λ x x′ xs xs′ e e′. same .logs five (x ∷ []) xs (x′ ∷ []) xs′ e e′ refl,
   )
