@@ -410,8 +410,7 @@ module _ (cells : ℕ → ℤ) (own : World) (o : Opening) (one two ch fl ho ab 
     cut-stretch =
         let given = ap (λ (es : List Event). bookAfter cells formatted (take 1 es) .fuse) are ∙ stretch-of-cut cells .1 in
         let runs = ap (λ (es : List Event). bookAfter cells formatted (take 5 es) .isOpen) are ∙ stretch-of-cut cells .2 in
-        let spent = ap (λ (es : List Event). bookAfter cells formatted (take 5 es) .fuse) are ∙ stretch-of-cut cells .3 in
-        (
+        let spent = ap (λ (es : List Event). bookAfter cells formatted (take 5 es) .fuse) are ∙ stretch-of-cut cells .3 in (
           stretch-counted .rows,
           stretch-counted .pages,
           sym given ∙ stretch-counted .fuse .held runs ∙ ap (moreBy (together (summed (map writesOf (take 4 (drop 1 cut)))))) spent,
