@@ -49,7 +49,7 @@ pub held-cells : (l : Ledger) (g c : ℕ) → member c (heldCells l g) ≡ (hold
 held-cells l g c = member-keep (λ k. holdsAny l g (only k)) c (cellsFrom cellLimit 0) ∙ ap (λ (t : Bool). holdsAny l g (only c) && t) (among-cells cellLimit 0 c (omega arith))
 
 -- the list has each cell of which the visit holds a change
-has-held : (l : Ledger) (g : ℕ) → Inv l → HasHeld l g (heldCells l g)
+pub has-held : (l : Ledger) (g : ℕ) → Inv l → HasHeld l g (heldCells l g)
 has-held l g i x m h =
     held-cells l g (x .cell) ∙
     and-i (holdsAny l g (only (x .cell))) _

@@ -4,13 +4,15 @@ use Prim.Native.Nat.{ℕ, _+_, _≤_, _<_}
 use native.Mathlib.Omega.{arith}
 use mathlib.Core.Path.{_≡_, refl, ap, sym, _∙_}
 use mathlib.Core.Bool.{true, false, _&&_}
-use mathlib.Core.List.{List, [], _∷_, map, List·Memᴰ·head, List·Memᴰ·tail, List·Memᴰ·not-nil}
+use mathlib.Core.Logic.{_≢_}
+use mathlib.Core.List.{List, [], _∷_, _++_, map, List·Memᴰ·head, List·Memᴰ·tail, List·Memᴰ·not-nil}
 use lib.ListN.{length, take, replicate}
 use lib.IntN.{ℤ, pos, negsuc}
 use Rattle.book.specs.Lists.{keep, member}
 use Rattle.book.specs.Rows.{Row, isCell, isUndo, fits}
 use Rattle.book.specs.Ledger.{Ledger, only, after, ledger}
-use Rattle.book.specs.Rules.{holdsAny, lawful, withinLimits, allowed, allowedLog}
+use Rattle.book.specs.Rules.{reserve, scopeFits, holdsAny, lawful, withinLimits, allowed, allowedLog}
+use Rattle.book.specs.Scopes.{scopesOf}
 use Rattle.book.specs.Calls.{Call}
 use Rattle.book.specs.Power.{Book, Fuse, none, left, formatted}
 use Rattle.book.specs.Cells.{zeros, keptSum}
@@ -20,7 +22,7 @@ use Rattle.book.specs.Writes.{Writes, openingWrites}
 use Rattle.book.specs.SessionWrites.{writes, summed, together, Counted, flushesDone, SessionCounts}
 use Rattle.book.specs.Swapped.{eventFor, DoneOrCut, oneThenOther, EitherOrder}
 use Rattle.book.specs.OpeningCost.{BeginsAndChanges, Cost, costliest, Costliest}
-use Rattle.book.specs.HandOverAll.{butRows, heldCells, allLawful, MeansSingles, AcceptedAlike, AllowedAlike}
+use Rattle.book.specs.HandOverAll.{butRows, HasHeld, heldCells, allLawful, MeansSingles, numberAfter, renumberedChange, renumberedScope, Renumbered, CountsAlike, AcceptedAlike, AllowedAlike}
 use Rattle.book.specs.RowBytes.{rowBytes, rowOf}
 use Rattle.book.specs.Numbers.{AreBytes}
 use Rattle.book.specs.LogBytes.{logBytes, good, bad, readLog}
@@ -30,7 +32,9 @@ use Rattle.book.specs.Cases.{cutAfterFlush, firstOpening, secondOpening}
 use Rattle.book.specs.OldLogs.{oldFits, oldAllowedLog, oldRowBytes, oldLogBytes, OldRows, OldLog, OldLogs}
 use Rattle.book.proofs.Lists.{clash, in-cons}
 use Rattle.book.proofs.HandOverAll.{hand-over-all-accepted, hand-over-all-allowed}
-use Rattle.book.proofs.HeldCells.{hand-over-all-means}
+use Rattle.book.proofs.HeldCells.{has-held, hand-over-all-means}
+use Rattle.book.proofs.LaterRows.{hand-over-all-later, hand-over-all-counts}
+use Rattle.book.proofs.InvariantKept.{inv-log}
 use Rattle.book.proofs.OldLogs.{old-rows, old-logs}
 use Rattle.book.proofs.Sound.{sound-formatted, sound-events}
 use Rattle.book.proofs.SessionWrites.{session-counts}
@@ -138,6 +142,67 @@ some-single-allowed = hand-over-all-allowed twoCells 1 2 cells-allowed .some who
 
 pub allowed-as-a-single : allowed (ledger twoCells) (Row.handOverAll 1 2) ≡ true
 allowed-as-a-single = hand-over-all-allowed twoCells 1 2 cells-allowed .all 223 single-allowed
+
+-- a change by 2 follows: row 7, and row 8 after the two single hand-overs
+abbrev wholeThenChange : List Row
+wholeThenChange = twoCells ++ (Row.handOverAll 1 2 ∷ Row.change 2 0 (pos 3) ∷ [])
+
+abbrev singlesThenChange : List Row
+singlesThenChange = twoCells ++ (Row.handOver 1 2 0 ∷ Row.handOver 1 2 223 ∷ Row.change 2 0 (pos 3) ∷ [])
+
+two-apart : _≢_ {A = ℕ} 1 2
+two-apart e = omega arith
+
+has-both : HasHeld (ledger twoCells) 1 (0 ∷ 223 ∷ [])
+has-both = rw two-held at (has-held (ledger twoCells) 1 (inv-log twoCells cells-allowed))
+
+later-alike : Renumbered (numberAfter 5 1) (ledger wholeThenChange) (ledger singlesThenChange)
+later-alike = hand-over-all-later twoCells 1 2 0 (223 ∷ []) cells-allowed two-apart has-both (Row.change 2 0 (pos 3) ∷ [])
+
+later-counts : CountsAlike (numberAfter 5 1) (ledger wholeThenChange) (ledger singlesThenChange)
+later-counts = hand-over-all-counts twoCells 1 2 0 (223 ∷ []) cells-allowed two-apart has-both (Row.change 2 0 (pos 3) ∷ [])
+
+-- what is computed of the one row
+undo-of-7 : lawful (ledger wholeThenChange) (Row.undo 2 0 7 (pos 3)) ≡ true
+unfolding computes
+undo-of-7 = refl
+
+whole-of-two : (ledger wholeThenChange .begun ≡ 2) × (ledger wholeThenChange .active ≡ 2 ∷ 1 ∷ []) × (ledger wholeThenChange .committed ≡ []) ×
+    (ledger wholeThenChange .undoing ≡ []) × (ledger wholeThenChange .undone ≡ []) ×
+    (map (λ x. x .row) (map (renumberedChange (numberAfter 5 1)) (ledger wholeThenChange .changes)) ≡ 8 ∷ 5 ∷ 4 ∷ 3 ∷ [])
+unfolding computes
+whole-of-two = (refl, refl, refl, refl, refl, refl)
+
+whole-counts : (scopeFits (ledger wholeThenChange) 1 9 ≡ true) × (reserve (ledger wholeThenChange) ≡ 6) ×
+    (map (λ s. s .first) (map (renumberedScope (numberAfter 5 1)) (scopesOf (ledger wholeThenChange))) ≡ 8 ∷ 5 ∷ 4 ∷ 3 ∷ [])
+unfolding computes scopesOf
+whole-counts = (refl, refl, refl)
+
+pub undo-of-8-lawful : lawful (ledger singlesThenChange) (Row.undo 2 0 8 (pos 3)) ≡ true
+undo-of-8-lawful = later-counts .rules (Row.undo 2 0 7 (pos 3)) ∙ undo-of-7
+
+pub later-active : ledger singlesThenChange .active ≡ 2 ∷ 1 ∷ []
+later-active = later-counts .active ∙ whole-of-two .1
+
+pub later-scope-fits : scopeFits (ledger singlesThenChange) 1 9 ≡ true
+later-scope-fits = later-counts .fits 1 9 ∙ whole-counts .0
+
+pub later-reserve : reserve (ledger singlesThenChange) ≡ 6
+later-reserve = later-counts .reserve ∙ whole-counts .1
+
+pub later-scopes : map (λ s. s .first) (scopesOf (ledger singlesThenChange)) ≡ 8 ∷ 5 ∷ 4 ∷ 3 ∷ []
+later-scopes = ap (map (λ s. s .first)) (later-counts .scopes) ∙ whole-counts .2
+
+pub later-ledger : (ledger singlesThenChange .begun ≡ 2) × (ledger singlesThenChange .active ≡ 2 ∷ 1 ∷ []) × (ledger singlesThenChange .committed ≡ []) ×
+    (ledger singlesThenChange .undoing ≡ []) × (ledger singlesThenChange .undone ≡ []) × (map (λ x. x .row) (ledger singlesThenChange .changes) ≡ 8 ∷ 5 ∷ 4 ∷ 3 ∷ [])
+later-ledger = (
+  later-alike .begun ∙ whole-of-two .0,
+  later-alike .active ∙ whole-of-two .1,
+  later-alike .committed ∙ whole-of-two .2,
+  later-alike .undoing ∙ whole-of-two .3,
+  later-alike .undone ∙ ap (map (numberAfter 5 1)) (whole-of-two .4),
+  ap (map (λ x. x .row)) (later-alike .changes) ∙ whole-of-two .5,
+)
 
 -- ── 02, L7: old logs ──────────────────────────────────────────────────────────────────────────────────────────────────
 
