@@ -4,3 +4,4 @@ pub mod Turns
 pub mod Sessions
 pub mod Outcome
 pub mod Example
+pub mod Uses
