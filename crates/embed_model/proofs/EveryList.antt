@@ -2,24 +2,23 @@
 use Prim.Native.Nat.{ℕ}
 use native.Mathlib.Omega.{arith}
 use mathlib.Core.Path.{_≡_, refl, ap, ap₂, sym, _∙_, subst}
-use mathlib.Core.Bool.{Bool, true, false, cond, not}
+use mathlib.Core.Bool.{Bool, true, false, cond}
 use mathlib.Core.List.{List, [], _∷_, _++_, map}
 use lib.ListN.{length}
 use lib.IntN.{ℤ, pos}
-use lib.Dec.{eqb, ltb}
-use borrow.Author.Tests.{eq-eqb}
-use Rattle.book.specs.Limits.{logLength, chartsLength, cellLimit}
+use lib.Dec.{eqb}
+use Rattle.book.specs.Limits.{logLength, chartsLength}
 use Rattle.book.specs.Power.{Book, Fuse, formatted}
 use Rattle.book.specs.Events.{Event, happens}
 use Rattle.book.specs.LogBytes.{logBytes}
-use Rattle.book.proofs.Lists.{and-i}
 use Rattle.book.proofs.Pages.{Bounded}
-use Rattle.state.specs.World.{World, rightLengths, cleared}
-use Rattle.state.specs.Contracts.{answered, badCell, cellsOf, formats}
+use Rattle.state.specs.World.{World, cleared}
+use Rattle.state.specs.Contracts.{answered, cellsOf, formats}
 use Rattle.state.proofs.FormattedStores.{formatted-store, newCharts}
 use Rattle.sessions.specs.Host.{eventOf, back, worldAfter, Contract}
 use Rattle.sessions.proofs.Held.{Held, step}
 use Rattle.sessions.proofs.Demand3.{held-formatted}
+use Rattle.sessions.proofs.EveryListMade.{formats-done}
 use Rattle.embed_model.specs.Arrays.{Arrays, worldIn, RamLengths}
 use Rattle.embed_model.specs.Packed.{answerIn, writesIn}
 use Rattle.embed_model.specs.Called.{answeredIn}
@@ -158,14 +157,6 @@ every-list-of-c format done lengths f es t =
     sessions-from (format .leaves) lengths f es (x .list) (sessions-of (x .list)) (x .events) (x .host) (x .typed)
 
 -- ── Some format ───────────────────────────────────────────────────────────────────────────────────────────────────────
-
-formats-done : (values : List ℤ) (w : World) → rightLengths w ≡ true → length values ≡ cellLimit → badCell values ≡ cellLimit
-    → formats values w ≡ answered 0 (pos 0) (cleared (logBytes []) (newCharts (cellsOf values)))
-unfolding formats
-formats-done values w right long good =
-    ap₂ (λ (s t : Bool). cond (not s) (answered 1 (pos 0) w) (cond t (answered 2 (pos (badCell values)) w)
-    (answered 0 (pos 0) (cleared (logBytes []) (newCharts (cellsOf values)))))) (and-i _ _ right (eq-eqb (length values) cellLimit long))
-    (ap (λ (n : ℕ). ltb n cellLimit) good)
 
 pub any-format-of-c : AnyFormatOfC
 unfolding AnyFormatOfC answerIn writesIn

@@ -5,11 +5,12 @@ use native.Mathlib.Omega.{arith}
 use mathlib.Core.Path.{_≡_, refl, ap, sym, _∙_, subst}
 use mathlib.Core.Bool.{true, false}
 use mathlib.Core.Logic.{inl, inr}
-use mathlib.Core.List.{List, [], _∷_, map, head-eq-of-cons-eq, tail-eq-of-cons-eq}
+use mathlib.Core.List.{List, [], _∷_, _++_, map, head-eq-of-cons-eq, tail-eq-of-cons-eq}
 use lib.ListN.{getD, take, drop}
 use lib.IntN.{ℤ, negsuc, _+ℤ_}
 use Rattle.book.specs.Lists.{any}
 use Rattle.book.specs.Rows.{Row}
+use Rattle.book.specs.Ledger.{Change, given}
 use Rattle.book.specs.Cells.{keptSum}
 use Rattle.book.specs.Calls.{Call}
 use Rattle.book.specs.Power.{none, left, rowsOf, formatted}
@@ -23,7 +24,7 @@ use Rattle.book.proofs.Example.{example}
 use Rattle.state.specs.World.{World}
 use Rattle.state.specs.Contracts.{answeredBy, cellsOf}
 use Rattle.sessions.specs.Host.{Opening, Called, Step, opened, called, steps, answerOf, eventOf, worldAfterAll, Host}
-use Rattle.sessions.specs.Demand3.{logOf, Holds}
+use Rattle.sessions.specs.Demand3.{bookOf, logOf, Holds}
 use Rattle.sessions.specs.Made.{FormatCall, Made, sessionOf, Demand3OfCalls}
 use Rattle.sessions.specs.Survives.{gave, HandedOver, Survives, HandedOverSurvivesOfCalls}
 use Rattle.sessions.specs.EveryList.{SessionsOfCalls, EveryListOfCalls}
@@ -236,3 +237,11 @@ module _ (format : FormatCall) (done : answeredBy (format .return) .answer .numb
         cell = subst (λ (x : List Step). cellOf (worldAfterAll ownWorld (take 8 x) .copy) 0 ≡ formattedCells 0 +ℤ negsuc 199) (sym q)
             (whole-cell formattedCells ownWorld (s .0) (s .3 .0) (s .3 .3 .0) (two-on .0) (two-on .3 .0) (two-on .3 .3 .0) (two-on .3 .3 .3 .0) (two-on .3 .3 .3 .3 .0) e h);
       }
+
+-- ── What the giver had received itself ────────────────────────────────────────────────────────────────────────────────
+
+-- a change that visit 1 made, that visit 2 has received, and that it hands on to visit 3: it is the holder that counts, and not the maker
+pub received-survives : (cells : ℕ → ℤ) (ss : List Step) → Survives cells ss → (h : HandedOver 2 3 0 ss)
+    → (x : Change) → Logged (rowsOf (bookOf cells (h .before))) x → x .maker ≡ 1 → x .holder ≡ 2 → x .cell ≡ 0
+    → InSum (logOf cells (h .before ++ (called (h .handOver) ∷ (h .between ++ (called (h .commit) ∷ []))))) (given 3 x)
+received-survives cells ss said h x l by-1 held cell = said 2 3 0 h x l held cell [] (h .later) refl
