@@ -12,7 +12,7 @@ The code of the header, without its comments, must be token by token the code th
   numbers and texts          the tables of docs/FORMAT.md, whose numbers are those of state/specs/Answers, case by case
   the version                the newest one of CHANGELOG.md
 
-Of the comments it checks the refusals that each call names: those of `ownNumbers` (state/specs/Contracts), in its order. The replay of tools/unit lists the same ones."""
+Of the comments it checks the refusals that each call names: those of `ownNumbers` (state/specs/Contracts), in its order; those of format, open and a page alone are written here. The replay of tools/unit lists the same ones."""
 import difflib
 import functools
 import pathlib

@@ -88,8 +88,8 @@ pub record SessionCounts (f : Fuse) (old : List Row) (w : Writes) (done : ℕ) (
   pub pages : w .pages ≡ done
   pub fuse : Counted f w b
 
--- And over any stretch of it, from the book `b` on up to the book `c`, whatever came before and whether or not an opening refused by 1 is in it or just before
--- it: under what is left of the fuse, where the book is open. Nothing lands where it is closed, as after a format and after a power failure.
+-- And over any stretch of it, from the book `b` on up to the book `c`, under what is left of the fuse where the book is open. That is so whatever came before, and
+-- also if an opening refused by 1 is in it. Nothing lands where the book is closed, as after a format and after a power failure.
 pub record StretchCounts (b : Book) (w : Writes) (done : ℕ) (c : Book) : Type 0 where
   pub running : b .isOpen ≡ true → SessionCounts (b .fuse) (b .stored) w done c
   pub idle : b .isOpen ≡ false → (w ≡ noWrites) × (done ≡ 0) × (c ≡ b)

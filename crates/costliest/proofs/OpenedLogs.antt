@@ -26,7 +26,7 @@ use Rattle.state.specs.OpeningCost.{Reported}
 use Rattle.state.proofs.OpeningCost.{costliest-opening}
 use Rattle.cores.specs.Lent.{blanks}
 use Rattle.costliest.specs.Log.{logAfter}
-use Rattle.costliest.specs.Opened.{lentFor, Opening}
+use Rattle.costliest.specs.Opened.{lentFor, OpeningResult}
 
 -- pages of zeros pass beside any log
 zeros-pass : (rs : List Row) → badPage rs (replicate chartsLength 0) ≡ pageLimit
@@ -46,7 +46,7 @@ reports n h x o =
 -- what the public call promises of the buffers as they are lent
 pub opening-of : (n : ℕ) → n ≤ costLimit → (s : State) (log : List ℕ) (scopes : List Scope) (r : Result) (log′ charts′ copy′ : List ℕ) (scopes′ : List Scope)
     → s ≡ closedState → log ≡ logAfter n (replicate logLength 0) → scopes ≡ blanks
-    → Opens (Left n) (world s log (replicate chartsLength 0) (replicate chartsLength 0) scopes) (returned r log′ charts′ copy′ scopes′) → Opening n r
+    → Opens (Left n) (world s log (replicate chartsLength 0) (replicate chartsLength 0) scopes) (returned r log′ charts′ copy′ scopes′) → OpeningResult n r
 opening-of n h s log scopes r log′ charts′ copy′ scopes′ closed left-in blank o =
     let x = returned r log′ charts′ copy′ scopes′ in
     let given : world s log (replicate chartsLength 0) (replicate chartsLength 0) scopes ≡ lentFor n = rw (closed, left-in ∙ written n h, blank) in

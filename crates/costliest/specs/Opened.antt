@@ -25,7 +25,7 @@ abbrev pub lentFor : ℕ → World
 lentFor n = world closedState (logBytes (costliest n)) (replicate chartsLength 0) (replicate chartsLength 0) (replicate scopeLimit (scopeOf unused))
 
 -- the result is that of such an opening by the public `open`, whatever the buffers are then, with power for n stored writes; and so it reported n rows
-pub record Opening (n : ℕ) (r : Result) : Type 0 where
+pub record OpeningResult (n : ℕ) (r : Result) : Type 0 where
   pub log : List ℕ
   pub charts : List ℕ
   pub copy : List ℕ
@@ -44,5 +44,5 @@ lineFor n a = decimal n ++ (space ∷ signedDecimal (numberAndValue a .value) ++
 -- the line of such an opening is written from the start of a buffer up to `end`
 pub record Told (n : ℕ) (before : List ℕ) (end : ℕ) (after : List ℕ) : Type 0 where
   pub result : Result
-  pub opening : Opening n result
+  pub opening : OpeningResult n result
   pub written : Written before 0 (lineFor n (result .answer)) end after

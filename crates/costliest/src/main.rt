@@ -1,5 +1,5 @@
-// `costliest` (document 02, L6). Without an argument: for each n from 0 to 2,048 a log of n rows whose opening writes the most rows is opened by the public call,
-// and a line has n and the rows that the opening reported. With n for its argument: the 65,536 bytes of that log. What is asked for wrongly, and that the output
+// `costliest` (document 02, L6). Without an argument: for each n from 0 to 2,048 a log of n rows whose opening writes the most rows is opened by the public call.
+// A line has n and the rows that the opening reported. With n for its argument: the 65,536 bytes of that log. What is asked for wrongly, and that the output
 // cannot be written, is said on standard error.
 mod argument; // for which n a log is asked for
 mod line; // the line of an opening
@@ -9,7 +9,7 @@ ghost use Prim.Native.Nat.{_≤_};
 ghost use lib.ListN.{length};
 ghost use Rattle.io.specs.Counts.{Counts};
 ghost use Rattle.book.specs.Limits.{costLimit};
-ghost use Rattle.costliest.specs.Opened.{lineLength, Opening, Told};
+ghost use Rattle.costliest.specs.Opened.{lineLength, OpeningResult, Told};
 use cores::entries::blank;
 use cores::ram::closed_state;
 use libc::STDERR_FILENO;
@@ -31,7 +31,7 @@ const ARGUMENT_LENGTH: usize = 8;
 // What an opening of the log of n rows comes to, beside charts of zeros and with power for n stored writes.
 fn opened(n: usize) -> Result
     requires { ⌜ n ≤ costLimit ⌝ }
-    ensures { λ r. ⌜ Opening n r ⌝ }
+    ensures { λ r. ⌜ OpeningResult n r ⌝ }
 {
     let mut log = [0u8; LOG_LENGTH];
     let mut charts = [0u8; CHARTS_LENGTH];

@@ -1,14 +1,21 @@
 -- The host's freedom (specs/Freedom).
-use mathlib.Core.Path.{_≡_, refl}
+use Prim.Native.Nat.{ℕ}
+use native.Mathlib.Omega.{arith}
+use mathlib.Core.Path.{_≡_, refl, sym, subst}
 use mathlib.Core.Bool.{Bool, true, false, cond}
-use mathlib.Core.Logic.{_≢_}
+use mathlib.Core.Logic.{_≢_, inl}
 use mathlib.Core.List.{List, [], _∷_, _++_}
 use lib.Dec.{eqb}
 use borrow.Author.Tests.{ne-eqb}
 use Rattle.book.specs.Lists.{foldl}
+use Rattle.book.specs.Calls.{Call, Typed}
+use Rattle.book.specs.Power.{Fuse}
 use Rattle.book.proofs.Lists.{clash}
-use Rattle.state.specs.World.{World}
-use Rattle.sessions.specs.Host.{Opening, Step, opened, worldAfter, worldAfterAll, callsFollow, HostDoes, Host}
+use Rattle.tables_model.specs.declared.Scope.{Scope}
+use Rattle.state.specs.declared.ram.State.{State}
+use Rattle.state.specs.World.{World, world}
+use Rattle.state.specs.Contracts.{Answered}
+use Rattle.sessions.specs.Host.{Opening, Step, opened, called, worldAfter, worldAfterAll, callsFollow, HostDoes, Host}
 use Rattle.sessions.specs.Freedom.{AnyOpening, AnyLengths}
 
 pub any-opening : AnyOpening
@@ -39,3 +46,21 @@ calls-go-on o left = go (eqb (o .result .answer .number) 1)
     go : (t : Bool) → cond t (o .asLeft) true ≡ true
     go true = left
     go false = refl
+
+-- ── A call after an opening that the power cut ────────────────────────────────────────────────────────────────────────
+
+-- the opening is given any state, copy and scope table and is refused by 5; the call gets what it left
+pub call-after-cut-opening : (own : World) (follow : Bool) (f : Fuse) (state : State) (copy : List ℕ) (scopes : List Scope) (x : Answered) → x .answer .number ≡ 5 →
+    let o : Opening = record { fuse = f; asLeft = false; given = world state (own .log) (own .charts) copy scopes; result = x } in
+    let then : World = worldAfter own (opened o) in
+    (k : Call) → Typed k → (y : Answered) →
+    Host own follow (opened o ∷ called (record { call = k; given = world (then .state) (then .log) (then .charts) (then .copy) (then .scopes); result = y }) ∷ [])
+unfolding AnyOpening AnyLengths
+call-after-cut-opening own follow f state copy scopes x five k t y =
+    let o : Opening = record { fuse = f; asLeft = false; given = world state (own .log) (own .charts) copy scopes; result = x } in
+    let then : World = worldAfter own (opened o) in
+    let s : Step = called (record { call = k; given = world (then .state) (then .log) (then .charts) (then .copy) (then .scopes); result = y }) in
+    let may = any-opening own follow f state (own .log) (own .charts) copy scopes x (inl refl) (inl refl) in
+    host-then own follow (opened o ∷ []) s (may, tt)
+    (subst (λ (b : Bool). HostDoes then b s) (sym (calls-follow follow o (λ one. omega arith)))
+    (any-lengths then (then .log) (then .charts) (then .copy) (then .scopes) y (inl refl) (inl refl) (inl refl) (inl refl) .0 k t))

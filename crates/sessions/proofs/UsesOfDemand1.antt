@@ -12,7 +12,7 @@ use Rattle.book.specs.Calls.{Call}
 use Rattle.book.specs.Power.{Fuse}
 use Rattle.book.specs.Writes.{noWrites}
 use Rattle.book.proofs.Lists.{clash}
-use Rattle.state.specs.World.{World, works, closedState, cleared}
+use Rattle.state.specs.World.{World, works, cleared}
 use Rattle.state.specs.Contracts.{Answered, FormatPost, OpenPost, CallPost, numbers}
 use Rattle.sessions.specs.Demand1.{formatNumbers, openNumbers, FormatAnswers, OpenAnswers, CallAnswers}
 use Rattle.sessions.proofs.Demand1.{demand-1}
@@ -39,11 +39,12 @@ module _ (values : List ℤ) (given : World) (x : Answered) (post : FormatPost v
     λ e. ap (λ (r : Answered). r .writes) (format-says .refused (λ z. omega arith)),
   )
 
-  -- `done`: the store is closed, and the value is 0
-  pub format-done : x .answer .number ≡ 0 → (x .world .state ≡ closedState) × (x .answer .value ≡ pos 0) × (x .writes ≡ noWrites)
+  -- `done`: copy, tail and scopes are cleared, the store is closed, and the value is 0
+  pub format-done : x .answer .number ≡ 0 →
+      (x .world ≡ cleared (x .world .log) (x .world .charts)) × (x .answer .value ≡ pos 0) × (x .writes ≡ noWrites)
   format-done z =
       let is = format-says .done z in
-      (ap (λ (r : Answered). r .world .state) is, ap (λ (r : Answered). r .answer .value) is, ap (λ (r : Answered). r .writes) is)
+      (ap (λ (r : Answered). r .world) is, ap (λ (r : Answered). r .answer .value) is, ap (λ (r : Answered). r .writes) is)
 
 -- ── Open ──────────────────────────────────────────────────────────────────────────────────────────────────────────────
 
@@ -55,9 +56,9 @@ module _ (f : Fuse) (given : World) (x : Answered) (post : OpenPost f given x) w
   pub open-numbers : (x .answer .number ≢ 2) × (x .answer .number ≢ 9)
   open-numbers = (unlisted _ 2 openNumbers (open-says .number) refl, unlisted _ 9 openNumbers (open-says .number) refl)
 
-  -- `refused`: state, copy and scopes are those that it was given
-  pub open-refused : x .answer .number ≡ 1 → x .world ≡ given
-  open-refused z = ap (λ (r : Answered). r .world) (open-says .refused z)
+  -- `refused`: state, copy and scopes are those that it was given, and nothing is counted
+  pub open-refused : x .answer .number ≡ 1 → (x .world ≡ given) × (x .writes ≡ noWrites)
+  open-refused z = (ap (λ (r : Answered). r .world) (open-says .refused z), ap (λ (r : Answered). r .writes) (open-says .refused z))
 
   -- `rejected`: by each of the four numbers, log and charts unchanged and the store closed
   pub open-rejected : (n : ℕ) → x .answer .number ≡ n → member n (3 ∷ 16 ∷ 17 ∷ 4 ∷ []) ≡ true →
@@ -67,11 +68,9 @@ module _ (f : Fuse) (given : World) (x : Answered) (post : OpenPost f given x) w
       (ap (λ (i : ℕ). member i (3 ∷ 16 ∷ 17 ∷ 4 ∷ [])) e ∙ m) no in
       ap (λ (r : Answered). r .world) (open-says .rejected (other 0 refl) (other 1 refl) (other 5 refl))
 
-  -- `failed`: the charts unchanged and the store closed
-  pub open-failed : x .answer .number ≡ 5 → (x .world .charts ≡ given .charts) × (x .world .state ≡ closedState) × (x .writes .pages ≡ 0)
-  open-failed z =
-      let is = open-says .failed z in
-      (ap (λ (r : Answered). r .world .charts) is, ap (λ (r : Answered). r .world .state) is, ap (λ (r : Answered). r .writes .pages) is)
+  -- `failed`: the charts unchanged, copy, tail and scopes cleared, and the store closed
+  pub open-failed : x .answer .number ≡ 5 → (x .world ≡ cleared (x .world .log) (given .charts)) × (x .writes .pages ≡ 0)
+  open-failed z = let is = open-says .failed z in (ap (λ (r : Answered). r .world) is, ap (λ (r : Answered). r .writes .pages) is)
 
 -- ── The other calls ───────────────────────────────────────────────────────────────────────────────────────────────────
 
@@ -79,20 +78,21 @@ module _ (k : Call) (given : World) (x : Answered) (post : CallPost k given x) w
   call-says : CallAnswers k given x
   call-says = demand-1 .calls k given x post
 
-  -- `refused`: by each number but 5 nothing changes
-  pub call-refused : (x .answer .number ≡ 8 → x .world ≡ given) × (x .answer .number ≡ 13 → x .world ≡ given)
+  -- `refused`: by 8 and by 13 nothing changes, and nothing is counted
+  pub call-refused : (x .answer .number ≡ 8 → x .world ≡ given) × (x .answer .number ≡ 13 → x .world ≡ given) × (x .answer .number ≡ 8 → x .writes ≡ noWrites)
   call-refused = (
     λ e. ap (λ (r : Answered). r .world) (call-says .refused (λ z. omega arith) (λ z. omega arith)),
     λ e. ap (λ (r : Answered). r .world) (call-says .refused (λ z. omega arith) (λ z. omega arith)),
+    λ e. ap (λ (r : Answered). r .writes) (call-says .refused (λ z. omega arith) (λ z. omega arith)),
   )
 
   -- `shut`: a store that was closed is as it was
-  pub call-shut : x .answer .number ≡ 5 → works (given .state) ≡ false → x .world ≡ given
-  call-shut z w = ap (λ (r : Answered). r .world) (call-says .shut z w)
+  pub call-shut : x .answer .number ≡ 5 → works (given .state) ≡ false → (x .world ≡ given) × (x .writes ≡ noWrites)
+  call-shut z w = (ap (λ (r : Answered). r .world) (call-says .shut z w), ap (λ (r : Answered). r .writes) (call-says .shut z w))
 
-  -- `failed`: one in which the power failed is closed, its charts unchanged
-  pub call-failed : x .answer .number ≡ 5 → works (given .state) ≡ true → (x .world .charts ≡ given .charts) × (x .world .state ≡ closedState)
-  call-failed z w = let is = call-says .failed z w in (ap (λ (r : Answered). r .world .charts) is, ap (λ (r : Answered). r .world .state) is)
+  -- `failed`: one in which the power failed is closed, its charts unchanged, and copy, tail and scopes cleared
+  pub call-failed : x .answer .number ≡ 5 → works (given .state) ≡ true → (x .world ≡ cleared (x .world .log) (given .charts)) × (x .writes .pages ≡ 0)
+  call-failed z w = let is = call-says .failed z w in (ap (λ (r : Answered). r .world) is, ap (λ (r : Answered). r .writes .pages) is)
 
 -- `number`: a read is never refused by 9, nor a commit by 8
 pub read-never-9 : (c : ℕ) (given : World) (x : Answered) → CallPost (Call.read c) given x → x .answer .number ≢ 9

@@ -398,7 +398,7 @@ module _ (cells : ℕ → ℤ) (own : World) (o : Opening) (one two ch fl ho ab 
       sym (ap fuseIn (cut-event 0)) ∙ cut-counted .fuse .burnt (ap (λ (es : List Event). bookAfter cells formatted (take 8 es) .isOpen) are ∙ rows-cut cells .2),
     )
 
-    -- `stretch`: the begins, the change and the flush take the whole fuse, for three rows and a page; the hand-over and the abort after them take nothing of it
+    -- `stretch`: the begins, the change and the flush take the whole fuse, and the log grows by the rows that they count
     stretch-counted : SessionCounts (bookOf cells (take 1 cut) .fuse) (logOf cells (take 1 cut)) (summed (map writesOf (take 4 (drop 1 cut))))
         (length (keep isFlushDone (take 4 (drop 1 cut)))) (bookOf cells (take 5 cut))
     stretch-counted = h .stretch (take 1 cut) (take 4 (drop 1 cut)) (drop 5 cut) refl (refl, (refl, (refl, (refl, tt)))) .running

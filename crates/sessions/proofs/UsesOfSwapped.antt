@@ -3,6 +3,7 @@
 use Prim.Native.Nat.{ℕ}
 use native.Mathlib.Omega.{arith}
 use mathlib.Core.Path.{_≡_, refl, ap, sym, _∙_}
+use mathlib.Core.Bool.{true}
 use mathlib.Core.Logic.{_≢_}
 use mathlib.Core.List.{List, [], _∷_, _++_, map, append-nil}
 use lib.ListN.{length}
@@ -19,9 +20,12 @@ use Rattle.book.specs.Swapped.{DoneOrCut, oneThenOther}
 use Rattle.book.proofs.WorkedExamples.{computes}
 use Rattle.book.proofs.TwoOrders.{ofCell0, ofCell7, threeVisits, forced}
 use Rattle.state.specs.World.{World}
-use Rattle.sessions.specs.Host.{Opening, Step, opened, called, answerOf, writesOf, eventOf, worldAfterAll}
+use Rattle.state.specs.Contracts.{answeredBy}
+use Rattle.sessions.specs.Host.{Opening, Step, opened, called, steps, answerOf, writesOf, eventOf, worldAfterAll, Host}
 use Rattle.sessions.specs.Demand3.{Holds}
-use Rattle.sessions.specs.Swapped.{SameResults}
+use Rattle.sessions.specs.Made.{FormatCall, Made, sessionOf}
+use Rattle.sessions.specs.Swapped.{Accepted, SameResults}
+use Rattle.sessions.specs.SwappedMade.{SwappedOfCalls}
 use Rattle.sessions.proofs.UsesOfDemand3.{askedIn, rowsStored}
 
 -- the hand-over of cell 0 first
@@ -87,7 +91,7 @@ module _ (own : World) (ss ss′ : List Step) (same : SameResults own (threeVisi
     λ x x′ xs xs′ e e′. same .charts (x ∷ []) xs (x′ ∷ []) xs′ e e′ refl,
   )
 
-  -- `logs`: the same, where the power fails in the second
+  -- `logs`: the same, of sessions in which the power fails in the second, as in `cut-occurs`
   pub swapped-logs : same .accepted .two .d .result .answer .number ≡ 5 → length ss′ ≡ length ss →
       (worldAfterAll own ss′ .log ≡ worldAfterAll own ss .log) ×
       ((x x′ : Step) (xs xs′ : List Step) → ss ≡ x ∷ xs → ss′ ≡ x′ ∷ xs′ → worldAfterAll own (x′ ∷ []) .log ≡ worldAfterAll own (x ∷ []) .log)
@@ -95,3 +99,14 @@ module _ (own : World) (ss ss′ : List Step) (same : SameResults own (threeVisi
     same .logs five ss [] ss′ [] (sym (append-nil ss)) (sym (append-nil ss′)) n,
     λ x x′ xs xs′ e e′. same .logs five (x ∷ []) xs (x′ ∷ []) xs′ e e′ refl,
   )
+
+-- the same answers and counts of sessions made with the public functions
+pub swapped-of-calls : SwappedOfCalls → (format : FormatCall) → answeredBy (format .return) .answer .number ≡ 0 → (ss ss′ : List Made) →
+    let own : World = answeredBy (format .return) .world in
+    Host own true (steps (map sessionOf ss)) → Host own true (steps (map sessionOf ss′)) →
+    Accepted (threeVisits (left 6)) ofCell0 ofCell7 forced (steps (map sessionOf ss)) →
+    map eventOf (steps (map sessionOf ss′)) ≡ threeVisits (left 6) ++ oneThenOther ofCell7 ofCell0 forced →
+    (map answerOf (steps (map sessionOf ss′)) ≡ map answerOf (steps (map sessionOf ss))) × (map writesOf (steps (map sessionOf ss′)) ≡ map writesOf (steps (map sessionOf ss)))
+unfolding SwappedOfCalls
+swapped-of-calls said format done ss ss′ host host′ two events =
+    let same = said format done ss ss′ host host′ (threeVisits (left 6)) ofCell0 ofCell7 forced two events in (same .answers, same .counts)

@@ -1,5 +1,5 @@
--- Demand 3 of the functions `format`, `open` and `call` of crate `store` leaves no list of events out: each one is that of some sessions made with them. The
--- contracts can be met from the first call to the last.
+-- Demand 3 of the functions `format`, `open` and `call` of crate `store` leaves out no list of events that starts with an opening and whose amounts have 16 bits:
+-- each is that of some sessions made with them. The contracts can be met from the first call to the last.
 use mathlib.Core.Bool.{Bool, true}
 use mathlib.Core.Path.{_≡_}
 use mathlib.Core.List.{List, [], _∷_, map}

@@ -19,7 +19,7 @@ use Rattle.sessions.specs.Host.{Called, Session, Step, called, steps, an
 use Rattle.sessions.specs.Demand3.{bookOf, logOf}
 use Rattle.sessions.specs.Made.{FormatCall, Made, sessionOf}
 
--- the call is a hand-over of the cell by the visit
+-- the call is a hand-over of the cell, or of all that it holds, by the visit
 abbrev pub gives : ℕ → ℕ → Call → Bool
 gives v c Call.begin = false
 gives v c (Call.change u k a) = false

@@ -27,7 +27,7 @@ pub record TwoHandOvers (before : List Event) (h k : Single) (later : List Event
   pub eventsLater : map eventOf ys ≡ later
 
 -- 02: "two single hand-overs (kind 3) of different cells that follow one another and are both accepted": no check refuses them. The second is answered 0, or 5
--- where the power fails while it stores a full tail; after a first that is answered 0 the store is open, so a 5 of the second is nothing else.
+-- where the power fails while it stores a full tail. After a first that is answered 0 the store is open, so a 5 of the second is nothing else.
 pub record Accepted (before : List Event) (h k : Single) (later : List Event) (ss : List Step) : Type 0 where
   pub two : TwoHandOvers before h k later ss
   pub apart : h .cell ≢ k .cell

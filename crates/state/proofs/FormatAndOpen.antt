@@ -52,6 +52,6 @@ pub open-1-before-3 : opens none (cleared (7 ∷ []) []) ≡ answered 1 (pos 0) 
 unfolding opens
 open-1-before-3 = refl
 
--- 01: the fuse 4294967295 is none, "every other number that many writes"
+-- 01: "4294967295 is none"; every other number is that many writes
 pub fuse-numbers : map fuseOfNumber (0 ∷ 4294967294 ∷ 4294967295 ∷ []) ≡ left 0 ∷ left 4294967294 ∷ none ∷ []
 fuse-numbers = refl

@@ -29,7 +29,7 @@ use Rattle.state.specs.World.{World, rightLengths, works, closedState, L
 use Rattle.state.specs.Contracts.{Answered, Returned, answeredBy, formats, opens, byBook, FormatPost, OpenPost, CallPost}
 use Rattle.state.specs.Functions.{Formats, Opens, Calls}
 use Rattle.state.specs.Numbers.{codeOf, reached, Occurs, NumbersOccur, SixNeverOccurs}
-use Rattle.state.specs.OpeningCost.{Powered, CostOfOpening, Reported, CostliestOpening}
+use Rattle.state.specs.OpeningCost.{Powered, CostOfOpening, Reported, CostliestOpening, CostOfOpen}
 use Rattle.state.proofs.Numbers.{numbers-occur, six-never-occurs}
 
 -- ── 02, L6: the costliest opening ─────────────────────────────────────────────────────────────────────────────────────
@@ -163,3 +163,9 @@ open-answers n given x does = ap (λ (r : Answered). r .answer) (does .post .is)
 
 pub begin-in-few-rows : (given : World) (x : Returned) → Calls Begin given x → answeredBy x .writes .rows ≤ 4096
 begin-in-few-rows given x does = does .post .few
+
+-- what it costs, of the public function
+pub open-at-most-its-rows : CostOfOpen → (n : ℕ) (given : World) (rs : List Row) (x : Returned) → LogIs given rs → Opens (Left n) given x
+    → answeredBy x .writes .rows ≤ length rs
+unfolding CostOfOpen
+open-at-most-its-rows said n given rs x log does = said (Left n) given rs x log does .cost .most
