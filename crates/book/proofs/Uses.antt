@@ -6,7 +6,7 @@ use mathlib.Core.Path.{_≡_, refl, ap, sym, _∙_}
 use mathlib.Core.Bool.{true, false, _&&_}
 use mathlib.Core.Logic.{_≢_}
 use mathlib.Core.List.{List, [], _∷_, _++_, map, List·Memᴰ·head, List·Memᴰ·tail, List·Memᴰ·not-nil}
-use lib.ListN.{length, take, replicate}
+use lib.ListN.{length, getD, take, replicate}
 use lib.IntN.{ℤ, pos, negsuc}
 use Rattle.book.specs.Lists.{keep, member}
 use Rattle.book.specs.Rows.{Row, isCell, isUndo, fits}
@@ -16,7 +16,7 @@ use Rattle.book.specs.Scopes.{scopesOf}
 use Rattle.book.specs.Calls.{Call}
 use Rattle.book.specs.Power.{Book, Fuse, none, left, formatted}
 use Rattle.book.specs.Cells.{zeros, keptSum}
-use Rattle.book.specs.Book.{Answer, answer, done, refusal, starting, reopen, opening}
+use Rattle.book.specs.Book.{Answer, answer, done, refusedBy, refusal, starting, reopen, opening}
 use Rattle.book.specs.Events.{Event, opens, calls, happens, answers, bookAfter}
 use Rattle.book.specs.Writes.{Writes, openingWrites}
 use Rattle.book.specs.SessionWrites.{writes, summed, together, Counted, flushesDone, SessionCounts}
@@ -28,7 +28,7 @@ use Rattle.book.specs.Numbers.{AreBytes}
 use Rattle.book.specs.LogBytes.{logBytes, good, bad, readLog}
 use Rattle.book.specs.Reading.{bytesOfRow, Reason, wrongBytes, breaksRule, overLimit, BadFor, ReadsExactly, Demand2Reading}
 use Rattle.book.specs.Pages.{cellOf}
-use Rattle.book.specs.Cases.{cutAfterFlush, firstOpening, secondOpening}
+use Rattle.book.specs.Cases.{session, then, changesOf, cutAfterFlush, firstOpening, secondOpening}
 use Rattle.book.specs.OldLogs.{oldFits, oldAllowedLog, oldRowBytes, oldLogBytes, OldRows, OldLog, OldLogs}
 use Rattle.book.proofs.Lists.{clash, in-cons}
 use Rattle.book.proofs.HandOverAll.{hand-over-all-accepted, hand-over-all-allowed}
@@ -48,7 +48,49 @@ use Rattle.book.proofs.TwoOrders.{ofCell0, ofCell7, threeVisits, accept
 
 -- ── 01: the cases marked * ────────────────────────────────────────────────────────────────────────────────────────────
 
--- twelve: the last is in its place
+-- answer n of these, the opening's being answer 0
+abbrev answerAt : List Answer → ℕ → Answer
+answerAt xs n = getD xs n (done (pos 0))
+
+pub empty-opens : answers zeros formatted (opens true (left 0) ∷ []) ≡ done (pos 0) ∷ []
+empty-opens = cases .0
+
+pub two-visits : answerAt (answers zeros formatted
+    (session (Call.begin ∷ Call.begin ∷ Call.change 1 0 (pos 300) ∷ Call.change 2 0 (negsuc 199) ∷ Call.commit 2 ∷ Call.abort 1 ∷ Call.read 0 ∷ []))) 7 ≡ done (negsuc 199)
+two-visits = ap (λ (xs : List Answer). answerAt xs 7) (cases .1)
+
+pub handed-is-kept : answerAt (answers zeros formatted
+    (session (Call.begin ∷ Call.change 1 0 (pos 70) ∷ Call.begin ∷ Call.handOver 1 2 0 ∷ Call.abort 1 ∷ Call.commit 2 ∷ Call.read 0 ∷ []))) 7 ≡ done (pos 70)
+handed-is-kept = ap (λ (xs : List Answer). answerAt xs 7) (cases .2)
+
+pub later-change-stays : answerAt (answers zeros formatted
+    (session (Call.begin ∷ Call.begin ∷ Call.change 1 0 (pos 10) ∷ Call.handOver 1 2 0 ∷ Call.change 1 0 (pos 5) ∷ Call.commit 1 ∷ Call.abort 2 ∷ Call.read 0 ∷ []))) 8 ≡ done (pos 5)
+later-change-stays = ap (λ (xs : List Answer). answerAt xs 8) (cases .3)
+
+pub handed-back : answerAt (answers zeros formatted
+    (session (Call.begin ∷ Call.begin ∷ Call.change 1 0 (pos 10) ∷ Call.handOver 1 2 0 ∷ Call.change 1 0 (pos 5) ∷ Call.handOver 2 1 0 ∷ Call.commit 1 ∷ Call.abort 2 ∷ Call.read 0 ∷ []))) 9 ≡ done (pos 15)
+handed-back = ap (λ (xs : List Answer). answerAt xs 9) (cases .4)
+
+pub lowest-undone : answerAt (answers (λ c. pos 5) formatted (session (Call.begin ∷ Call.change 1 0 (negsuc 32767) ∷ Call.abort 1 ∷ Call.read 0 ∷ []))) 4 ≡ done (pos 5)
+lowest-undone = ap (λ (xs : List Answer). answerAt xs 4) (cases .5)
+
+pub last-cell : answers zeros formatted (session (Call.begin ∷ Call.change 1 223 (pos 1) ∷ Call.change 1 224 (pos 1) ∷ [])) ≡
+    done (pos 0) ∷ done (pos 1) ∷ done (pos 2) ∷ refusedBy 10 ∷ []
+last-cell = cases .6
+
+pub to-oneself : answerAt (answers zeros formatted (session (Call.begin ∷ Call.change 1 0 (pos 1) ∷ Call.handOver 1 1 0 ∷ []))) 3 ≡ refusedBy 12
+to-oneself = ap (λ (xs : List Answer). answerAt xs 3) (cases .7)
+
+pub untouched-cell : answerAt (answers zeros formatted (session (Call.begin ∷ Call.begin ∷ Call.change 1 0 (pos 1) ∷ Call.handOver 1 2 1 ∷ []))) 4 ≡ refusedBy 13
+untouched-cell = ap (λ (xs : List Answer). answerAt xs 4) (cases .8)
+
+pub one-visit-fills : (then (changesOf 2046) (Call.change 1 0 (pos 1)) ≡ done (pos 2048)) × (then (changesOf 2047) (Call.change 1 0 (pos 1)) ≡ refusedBy 8)
+one-visit-fills = (cases .9 .0, cases .9 .1)
+
+pub next-begin-is-7 : then (session (replicate 16 Call.begin)) Call.begin ≡ refusedBy 7
+next-begin-is-7 = cases .10
+
+-- the last, over rows and over bytes
 pub undone-once-in-log : keep isUndo (bookAfter zeros formatted cutAfterFlush .stored) ≡ Row.undo 1 0 2 (pos 9) ∷ []
 undone-once-in-log = cases .11 .0 .1
 

@@ -5,7 +5,7 @@ use mathlib.Core.Path.{_≡_, refl, ap, ap₂, sym, _∙_, subst}
 use mathlib.Core.Bool.{Bool, true, false, cond, not, _||_}
 use mathlib.Core.Logic.{_⊎_, inl, inr}
 use mathlib.Core.List.{List, [], _∷_, _++_, map, head-eq-of-cons-eq, tail-eq-of-cons-eq}
-use lib.ListN.{length}
+use lib.ListN.{length, replicate}
 use lib.IntN.{ℤ, pos, negsuc}
 use lib.Dec.{eqb, ltb}
 use borrow.Author.Tests.{eqb-true, eq-eqb}
@@ -283,6 +283,12 @@ any-format values long good given right =
       refl,
       refl,
     )
+
+-- zeros are formatted, and whatever buffers of 01's lengths are lent
+pub zeros-formatted : (given : World) → rightLengths given ≡ true
+    → (format : FormatCall) × (format .cells ≡ replicate 224 (pos 0)) × (format .given ≡ given) × (answeredBy (format .return) .answer .number ≡ 0)
+unfolding AnyFormat
+zeros-formatted given right = any-format (replicate 224 (pos 0)) refl refl given right
 
 -- ── The numbers of the types ──────────────────────────────────────────────────────────────────────────────────────────
 
