@@ -64,6 +64,7 @@ module _ {A : Type 0} where
 
 -- of changes in descending order one has this row number
 row-once : (xs : List Change) (s : Change) → Falling xs → In s xs → length (keep (λ x. eqb s.row x.row) xs) ≡ 1
+row-once [] s f x'' = elim x'' [ ]
 row-once (z ∷ xs) s f (Memᴰ.head e) =
     rw (eq-eqb s.row z.row (ap (λ (x : Change). x.row) e))
     (ap (λ ys. suc (length ys)) (keep-none _ xs (λ y m.

@@ -68,6 +68,7 @@ fresh l i = is_false _ (λ e. let d = i.named (suc l.rows) e in omega arith)
 
 -- changes of one row number are one change
 pub same_row : (xs : List Change) (x y : Change) → Falling xs → In x xs → In y xs → x.row ≡ y.row → x ≡ y
+same_row [] x y f x6 _ e = elim x6 [ ]
 same_row (z ∷ xs) x y f (Memᴰ.head p) (Memᴰ.head q) e = p ∙ sym q
 same_row (z ∷ xs) x y f (Memᴰ.head p) (Memᴰ.tail n) e = let k = f.0 y n in let r = ap (λ (w : Change). w.row) p in absurd (omega arith)
 same_row (z ∷ xs) x y f (Memᴰ.tail m) (Memᴰ.head q) e = let k = f.0 x m in let r = ap (λ (w : Change). w.row) q in absurd (omega arith)

@@ -214,6 +214,7 @@ module _ {A : Type 0} where
   -- and is shorter if it leaves an element out
   pub length-keep-less : (p q : A → Bool) (xs : List A) (y : A) → ((x : A) → In x xs → p x ≡ true → q x ≡ true) → In y xs → p y ≡ false → q y ≡ true
       → length (keep p xs) < length (keep q xs)
+  length-keep-less p q [] y h x4 a b = elim x4 [ ]
   length-keep-less p q (x ∷ xs) y h (Memᴰ.head e) a b =
       rw (← e, a, b) (let k = length-keep p q xs (λ z m. h z (there m)) in omega arith)
   length-keep-less p q (x ∷ xs) y h (Memᴰ.tail m) a b = go (p x) (q x) (h x here) (length-keep-less p q xs y (λ z n. h z (there n)) m a b)
@@ -272,6 +273,7 @@ goes v xs = is_false _ (λ e. clash _ (eq-eqb v v refl) (stays v v xs e).0)
 
 -- a member, by the test and by the type
 pub member-in : (v : ℕ) (xs : List ℕ) → In v xs → member v xs ≡ true
+member-in v [] x' = elim x' [ ]
 member-in v (x ∷ xs) (Memᴰ.head e) = or_l (eqb v x) (member v xs) (eq-eqb v x e)
 member-in v (x ∷ xs) (Memᴰ.tail m) = or_r (eqb v x) (member v xs) (member-in v xs m)
 

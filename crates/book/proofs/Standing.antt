@@ -4,7 +4,7 @@ use native.Mathlib.Omega.{arith}
 use mathlib.Core.Path.{◌≡◌, refl, ap, sym, ◌∙◌}
 use mathlib.Core.Bool.{Bool, true, false, not, ◌&&◌, ◌||◌}
 use mathlib.Core.List.Memᴰ
-use mathlib.Core.List.{List, ◌∷◌}
+use mathlib.Core.List.{[], List, ◌∷◌}
 use lib.Dec.{eqb, leb, ltb}
 use borrow.Author.Tests.{eqb-true, eq-eqb, eqb-false, ne_eqb, leb-true, le-leb, ltb-true, ltb-false}
 use Rattle.book.specs.Lists.{In, keep}
@@ -98,6 +98,7 @@ standing-undo l x n =
 -- a change with no higher one is the first
 first_of : (xs : List Change) (x : Change) → Falling xs → In x xs → ((y : Change) → In y xs → y.row ≤ x.row)
     → xs ≡ x ∷ keep (λ y. not (eqb y.row x.row)) xs
+first_of [] x f x5 h = elim x5 [ ]
 first_of (z ∷ zs) x f (Memᴰ.head e) h =
     let row = ap (λ (w : Change). w.row) e in
     let rest : keep (λ y. not (eqb y.row x.row)) zs ≡ zs =

@@ -44,10 +44,12 @@ amounts-pass p g r cs (x ∷ xs) h = rw (pass-cases (λ (y : Change). p y ≡ p 
 -- the sum without one of the changes
 amounts-less : (p : Change → Bool) (xs : List Change) (x : Change) → Falling xs → In x xs → p x ≡ true
     → amounts (keep (λ y. p y && not (eqb y.row x.row)) xs) +ℤ x.amount ≡ amounts (keep p xs)
+amounts-less p [] x f x5 t = elim x5 [ ]
 amounts-less p (z ∷ xs) x f (Memᴰ.head e) t =
+    let r = ap (λ (w : Change). w.row) e in
     rw (e, rw e at t, eq-eqb z.row z.row refl)
-    (rw (keep_same (λ y. p y && not (eqb y.row z.row)) p xs
-    (λ y m. let k = f.0 y m in rw (ne_eqb y.row z.row (λ q. omega arith)) (and-true (p y))))
+    (rw (keep_same (λ y. p y && not (eqb y.row x.row)) p xs
+    (λ y m. let k = f.0 y m in rw (ne_eqb y.row x.row (λ q. omega arith)) (and-true (p y))))
     (+ℤ_comm (amounts (keep p xs)) z.amount))
 amounts-less p (z ∷ xs) x f (Memᴰ.tail m) t =
     let k = f.0 x m in
