@@ -20,7 +20,7 @@ use wal::take_back::take_back;
 use wal::write::write;
 
 // What an accepted call leaves besides the buffers.
-#[derive(Drop)]
+#[derive(Clone, Copy)]
 pub struct Acted {
     pub control: Control,
     pub counts: Counts,

@@ -14,7 +14,7 @@ use state::answers::{Answer, Result, no_writes};
 use state::ram::State;
 use tables_model::Scope;
 
-#[derive(Drop)]
+#[derive(Clone, Copy)]
 pub struct Out {
     pub result: Result,
     pub table: [Scope; SCOPE_LIMIT],

@@ -6,7 +6,7 @@ ghost use Rattle.costliest.specs.declared.argument.Asked.TheVariants.{Nothing, N
 use rows::limits::COST_LIMIT;
 
 // What the bytes so far ask for: none of them read yet, a number up to 2,048, or no such number.
-#[derive(Drop)]
+#[derive(Clone, Copy)]
 pub enum Asked {
     Nothing,
     Number(usize),

@@ -1,6 +1,8 @@
 // `costliest` (document 02, L6). Without an argument: for each n from 0 to 2,048 a log of n rows whose opening writes the most rows is opened by the public call.
 // A line has n and the rows that the opening reported. With n for its argument: the 65,536 bytes of that log. What is asked for wrongly, and that the output
 // cannot be written, is said on standard error.
+#![tactic(auto)]
+
 mod argument; // for which n a log is asked for
 mod line; // the line of an opening
 mod log; // the logs

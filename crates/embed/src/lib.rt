@@ -1,5 +1,7 @@
 // The calls for C, a function each, and the forward part of an opening for one page. Each call is lent five arrays of RAM (head, visits, scopes, tail
 // and copy), which it works on where they lie, the stored log and the stored charts; an array crosses as a pointer, a slice as a pointer and a length.
+#![tactic(auto)]
+
 mod head; // where the journal stands and the counters, in eight numbers
 mod opening; // format and open on the arrays, and a page alone
 mod packed; // the answer in one number

@@ -12,7 +12,7 @@ use rows::limits::ROW_LENGTH;
 use state::ram::{Fuse, Phase};
 
 // How a run of stored writes ended: the fuse, the rows stored, and whether a write was beyond the fuse.
-#[derive(Drop)]
+#[derive(Clone, Copy)]
 pub struct Run {
     pub fuse: Fuse,
     pub stored: usize,

@@ -5,7 +5,7 @@ ghost use Rattle.journal.specs.Writes.{spend_of};
 use state::ram::Fuse;
 
 // What one stored write does to the fuse: it lands and leaves a fuse, or it is beyond it.
-#[derive(Drop)]
+#[derive(Clone, Copy)]
 pub enum Spent {
     Lands(Fuse),
     Beyond,

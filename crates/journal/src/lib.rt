@@ -1,5 +1,7 @@
 // The journal: rows go through the tail to the stored log, and pages to the stored charts, one stored write each under the fuse (document 01, "Power" and "Calls").
 // `proofs/Meaning` says that these functions do to the bytes what the book's steps do to its rows.
+#![tactic(auto)]
+
 use state::answers::{Answer, Writes};
 use state::ram::{Fuse, Phase};
 use tables_model::Counts;
@@ -13,7 +15,7 @@ pub mod tail;
 pub mod writes;
 
 // Where the journal stands. A write beyond the fuse closes it: then nothing waits, the fuse is gone, and the rows that landed stay counted.
-#[derive(Drop)]
+#[derive(Clone, Copy)]
 pub struct Control {
     pub phase: Phase,
     pub fuse: Fuse,
@@ -22,7 +24,7 @@ pub struct Control {
 }
 
 // What a call comes to besides the lent arrays: its answer, where the journal stands, the counters of the tables, and the stored writes that landed.
-#[derive(Drop)]
+#[derive(Clone, Copy)]
 pub struct Outcome {
     pub answer: Answer,
     pub control: Control,

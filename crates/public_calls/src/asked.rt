@@ -4,7 +4,7 @@ use rows::{Cell, Visit};
 use state::ram::Fuse;
 use state::requests::Request;
 
-#[derive(Drop)]
+#[derive(Clone, Copy)]
 pub(crate) enum Asked {
     Format,
     Open(Fuse),

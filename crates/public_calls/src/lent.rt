@@ -16,7 +16,7 @@ use tables_model::Scope;
 
 const ENTRIES: usize = 128;
 
-#[derive(Drop)]
+#[derive(Clone, Copy)]
 pub struct Out {
     pub result: Result,
     pub table: [Scope; ENTRIES],

@@ -1,5 +1,7 @@
 // The public calls of crate `store` as an exported function on arrays of numbers, for the comparison. Any numbers are some state and some scope table: these are made of them, the table is
 // lent to the public function as a `&mut [Scope]`, and both are written back.
+#![tactic(auto)]
+
 mod asked; // what is asked for, in numbers
 mod entries; // a scope table in numbers
 mod lent; // the public calls with a table of as many entries as there are numbers for

@@ -1,5 +1,7 @@
 // `relog` (document 01, "The run file"): a run file from standard input, its lines to standard output. An input that cannot be read is no run file; that, and
 // that the output cannot be written, is said on standard error.
+#![tactic(auto)]
+
 ghost use Rattle.io.specs.Counts.{IsPrefixLen};
 
 use libc::{STDERR_FILENO, STDIN_FILENO, STDOUT_FILENO};

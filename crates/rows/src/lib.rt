@@ -1,5 +1,7 @@
 // Rows of the log (document 01, "The store"): the numbers of rows, visits and cells, what a row is, what its 16 bytes
 // are read as, and what it does to the charts.
+#![tactic(auto)]
+
 pub mod effects;
 pub mod limits;
 pub mod numbers;
@@ -9,18 +11,18 @@ mod table;
 pub mod writer;
 
 // A row's number, from 1.
-#[derive(Drop)]
+#[derive(Clone, Copy)]
 pub struct Lsn(pub u16);
 
 // A visit's number, from 1.
-#[derive(Drop)]
+#[derive(Clone, Copy)]
 pub struct Visit(pub u16);
 
 // A cell's number.
-#[derive(Drop)]
+#[derive(Clone, Copy)]
 pub struct Cell(pub u8);
 
-#[derive(Drop)]
+#[derive(Clone, Copy)]
 pub enum Row {
     // the visit that begins
     Begin(Visit),
@@ -37,7 +39,7 @@ pub enum Row {
 }
 
 // What 16 bytes are read as.
-#[derive(Drop)]
+#[derive(Clone, Copy)]
 pub enum Read {
     // a row whose bytes and fields are as 01's table has them
     Valid(Row),
@@ -50,7 +52,7 @@ pub enum Read {
 }
 
 // What a row does to the charts.
-#[derive(Drop)]
+#[derive(Clone, Copy)]
 pub enum Effect {
     Nothing,
     Adds(Cell, i16),

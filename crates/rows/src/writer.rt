@@ -11,7 +11,7 @@ use crate::table::put_by_table;
 use crate::{Lsn, Row};
 
 // A row's fields, with zeros for those that its kind lacks.
-#[derive(Drop)]
+#[derive(Clone, Copy)]
 struct Fields {
     kind: u8,
     visit: u16,

@@ -34,7 +34,7 @@ pub const INPUT_LENGTH: usize = FILE_LIMIT + 1;
 pub const OUTPUT_LENGTH: usize = 18432;
 
 // Between two calls: what the store has in RAM, and the place of the next line.
-#[derive(Drop)]
+#[derive(Clone, Copy)]
 struct Point {
     state: State,
     table: [Scope; SCOPE_LIMIT],
@@ -42,7 +42,7 @@ struct Point {
 }
 
 // The lines took so many bytes; or the output could be too short for them.
-#[derive(Drop)]
+#[derive(Clone, Copy)]
 pub enum Output {
     Lines(usize),
     OutputTooShort,

@@ -5,7 +5,7 @@ ghost use Rattle.state.specs.Answers.{number_and_value};
 use crate::ram::State;
 use rows::{Cell, Lsn, Visit};
 
-#[derive(Drop)]
+#[derive(Clone, Copy)]
 pub enum Answer {
     Done,
     Visit(Visit),
@@ -31,14 +31,14 @@ pub enum Answer {
 }
 
 // The stored writes that a call landed, rows and pages.
-#[derive(Drop)]
+#[derive(Clone, Copy)]
 pub struct Writes {
     pub rows: usize,
     pub pages: usize,
 }
 
 // What a call gives back.
-#[derive(Drop)]
+#[derive(Clone, Copy)]
 pub struct Result {
     pub state: State,
     pub answer: Answer,

@@ -6,14 +6,14 @@ use rows::limits::TAIL_LENGTH;
 use tables_model::Tables;
 
 // Closed until it is opened, and after a power failure.
-#[derive(Drop)]
+#[derive(Clone, Copy)]
 pub enum Phase {
     Open,
     Closed,
 }
 
 // The stored writes that still land: without limit, or so many.
-#[derive(Drop)]
+#[derive(Clone, Copy)]
 pub enum Fuse {
     Unlimited,
     Left(u32),
@@ -33,7 +33,7 @@ pub fn fuse_of_number(n: u32) -> Fuse
 }
 
 // Rows stored and waiting are counted; the tail has the waiting ones, zero after the last.
-#[derive(Drop)]
+#[derive(Clone, Copy)]
 pub struct State {
     pub phase: Phase,
     pub fuse: Fuse,

@@ -4,7 +4,7 @@ ghost use Rattle.state.specs.Requests.{call_of};
 
 use rows::{Cell, Visit};
 
-#[derive(Drop)]
+#[derive(Clone, Copy)]
 pub enum Request {
     Begin,
     Change(Visit, Cell, i16),

@@ -1,18 +1,20 @@
 // The tables of an open store, without the functions that keep them: the types, the definitions of what every row makes of them (`specs/`), and the
 // theorems that they say at every moment what the rows of log and tail say (`proofs/Simulation`, `proofs/Judge`). It stands apart from crate `tables`
 // so that a wrong definition is refused in seconds, with no code to be proved.
+#![tactic(auto)]
+
 use rows::limits::ACTIVE_LIMIT;
 use rows::{Cell, Lsn, Visit};
 
 // An active visit. Later fields move with it: the array is compacted entry by entry.
-#[derive(Drop)]
+#[derive(Clone, Copy)]
 pub struct Active {
     pub visit: Visit,
     pub bears: bool, // an undo row bears it
 }
 
 // The active visits stand in ascending order in the first `count` places, vacant ones after them; the first `used` scope entries are in use.
-#[derive(Drop)]
+#[derive(Clone, Copy)]
 pub struct Tables {
     pub begun: u16, // begin rows so far
     pub active: [Active; ACTIVE_LIMIT],
@@ -21,7 +23,7 @@ pub struct Tables {
 }
 
 // The same without the visits, which are lent beside it where they are worked on in place.
-#[derive(Drop)]
+#[derive(Clone, Copy)]
 pub struct Counts {
     pub begun: u16,
     pub count: usize,
@@ -29,7 +31,7 @@ pub struct Counts {
 }
 
 // An entry of the scope table: changes of one cell by one maker that share a holder.
-#[derive(Drop)]
+#[derive(Clone, Copy)]
 pub struct Scope {
     pub maker: Visit,
     pub holder: Visit,
@@ -41,28 +43,28 @@ pub struct Scope {
 }
 
 // The visits that a take-back is about: abort is about one, an opening about all.
-#[derive(Drop)]
+#[derive(Clone, Copy)]
 pub enum Whom {
     One(Visit),
     All,
 }
 
 // The cells that a hand-over is about: one, or all.
-#[derive(Drop)]
+#[derive(Clone, Copy)]
 pub enum CellSet {
     Only(Cell),
     Every,
 }
 
 // An entry of the scope table, or none.
-#[derive(Drop)]
+#[derive(Clone, Copy)]
 pub enum Found {
     At(usize),
     Nothing,
 }
 
 // What the row rules say of a row whose bytes are well formed.
-#[derive(Drop)]
+#[derive(Clone, Copy)]
 pub enum Verdict {
     Allowed,
     Unlawful,
