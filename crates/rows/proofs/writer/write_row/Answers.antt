@@ -1,0 +1,9 @@
+-- `rows::writer::write_row` meets its contract. Assumes nothing.
+use Rattle.rows.proofs.Written.{kind-known, written}
+use borrow.Author.Rules.{rules}
+use Rattle.rows.proofs.writer.write_row.Goals as goal
+
+pub returns : goal.returns
+returns c =
+    rw (c.put.ensures, c.parts_of.ensures)
+    (written c.args.row c.args.n.0 c.args.b.now c.requires)
