@@ -1,0 +1,8 @@
+-- `charts::charts::apply_effect` meets its contract. Assumes nothing.
+use Rattle.std.proofs.Common.{to_z-of_z, w16, rules}
+use Rattle.charts.specs.Moves.{charts_moved}
+use Rattle.charts.proofs.charts.apply_effect.Goals as goal
+
+pub returns-in-Nothing : goal.returns-in-Nothing
+unfolding charts_moved
+returns-in-Nothing c = rw c.in-Nothing.is
