@@ -1,0 +1,12 @@
+-- `tables::lookup::last_by` meets its contract. Assumes nothing.
+use Rattle.tables.proofs.Flat.{entries_at}
+use Rattle.std.proofs.Common.{rules}
+use Rattle.tables.proofs.lookup.last_by.Goals as goal
+
+pub returns-then-covers : goal.returns-then-covers
+returns-then-covers c =
+    rw (entries_at _ _ c.requires.below, ← c.holder_at.ensures, ← c.covers.ensures, c.if-covers.true) c.last_at-last.ensures
+
+pub returns : goal.returns
+returns c =
+    rw (entries_at _ _ c.requires.below, ← c.holder_at.ensures, ← c.covers.ensures, c.if-covers.false)

@@ -1,0 +1,40 @@
+-- `tables::steps::step` meets its contract. Assumes nothing.
+use Rattle.tables_model.specs.Rows.{grows_by, step_by}
+use Rattle.std.proofs.Common.{rules}
+use Rattle.tables.proofs.steps.step.Goals as goal
+
+pub after_change-requires : goal.after_change-requires
+unfolding grows_by
+after_change-requires c =
+    record {
+      ranged = record { range = c.requires.ready.range; long = c.requires.ready.long };
+      entry = λ vs. rw c.in-Change.is at c.requires.takes;
+    }
+
+pub returns-in-Begin : goal.returns-in-Begin
+unfolding step_by
+returns-in-Begin c = rw (c.in-Begin.is, c.with_begun.ensures)
+
+pub returns-in-Change : goal.returns-in-Change
+unfolding step_by
+returns-in-Change c = rw c.in-Change.is (c.after_change.ensures _)
+
+pub returns-in-HandOver : goal.returns-in-HandOver
+unfolding step_by
+returns-in-HandOver c = rw (c.in-HandOver.is, c.hand_over.ensures)
+
+pub returns-in-Undo : goal.returns-in-Undo
+unfolding step_by
+returns-in-Undo c = rw c.in-Undo.is c.after_undo.ensures
+
+pub returns-in-Commit : goal.returns-in-Commit
+unfolding step_by
+returns-in-Commit c = rw c.in-Commit.is c.after_end.ensures
+
+pub returns-in-Abort : goal.returns-in-Abort
+unfolding step_by
+returns-in-Abort c = rw c.in-Abort.is c.after_end-in-Abort.ensures
+
+pub returns-in-HandOverAll : goal.returns-in-HandOverAll
+unfolding step_by
+returns-in-HandOverAll c = rw (c.in-HandOverAll.is, c.hand_over-in-HandOverAll.ensures)
