@@ -1,5 +1,5 @@
 -- The tables of an allowed log have their lengths, and their numbers have the bits of their types.
-use Prim.Native.Nat.{ℕ, suc, ◌-◌, ◌≤◌, ◌<◌}
+use Prim.Native.Nat.{ℕ, zero, suc, ◌-◌, ◌≤◌, ◌<◌}
 use native.Mathlib.Omega.{arith}
 use mathlib.Core.Path.{◌≡◌, ap, sym, subst}
 use mathlib.Core.Bool.{true, ◌&&◌}
@@ -35,6 +35,7 @@ use Rattle.embed_model.proofs.FlatTables.{EntryFits}
 
 module _ {A : Type 0} where
   of-same : (n : ℕ) (d y : A) → In y (replicate n d) → y ≡ d
+  of-same zero d y m = elim m [ ]
   of-same (suc n) d y (Memᴰ.head e) = e
   of-same (suc n) d y (Memᴰ.tail m) = of-same n d y m
 
@@ -47,6 +48,7 @@ module _ {A : Type 0} where
       go (inr k) = subst P (sym (of-same (n - length (reverse xs)) d x k)) p
 
   in_sum : (f : A → ℕ) (x : A) (xs : List A) → In x xs → f x ≤ sum_by f xs
+  in_sum f x [] m = elim m [ ]
   in_sum f x (y ∷ xs) (Memᴰ.head e) = let k = ap f e in omega arith
   in_sum f x (y ∷ xs) (Memᴰ.tail m) = let k = in_sum f x xs m in omega arith
 

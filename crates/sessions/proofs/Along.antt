@@ -21,8 +21,8 @@ use Rattle.sessions.proofs.Held.{Held, ByBook, step, step-writes}
 -- the calls' arguments fit their types
 pub typed : (own : World) (follow : Bool) (xs ys : List Step) → Host own follow (xs ++ ys) → TypedEvents (map event_of xs)
 typed own follow [] ys h = tt
-typed own follow (opened o ∷ xs) ys h = (tt, typed _ _ xs ys h.1)
-typed own follow (called c ∷ xs) ys h = (h.0.1, typed _ _ xs ys h.1)
+typed own follow (opened o ∷ xs) ys h = (tt, typed (world_after own (opened o)) (calls_follow follow (opened o)) xs ys h.1)
+typed own follow (called c ∷ xs) ys h = (h.0.1, typed (world_after own (called c)) (calls_follow follow (called c)) xs ys h.1)
 
 -- the book after some events and then others
 pub book-then : (cells : ℕ → ℤ) (b : Book) (xs ys : List Event) → book_after cells b (xs ++ ys) ≡ book_after cells (book_after cells b xs) ys
