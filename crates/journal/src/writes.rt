@@ -25,8 +25,8 @@ fn put_sixteen(stored: &mut [u8], at: usize, new: &[u8])
 {
     let end = at + 16;
     let mut local = [0u8; 16];
-    bytes::copy(new, &mut local);
-    bytes::copy(&local, &mut stored[at..end]);
+    local.copy_from_slice(new);
+    stored[at..end].copy_from_slice(&local);
 }
 
 // The row's bytes become row k of the log, counted from 0.

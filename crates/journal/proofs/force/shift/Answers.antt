@@ -1,0 +1,15 @@
+use Prim.Native.Nat.{ℕ, ◌+◌, ◌*◌, ◌-◌, ◌≤◌}
+use native.Mathlib.Omega.{arith}
+use mathlib.Core.Path.{◌≡◌, refl, ap, ap₂, ◌∙◌}
+use mathlib.Core.List.{List, ◌++◌}
+use borrow.Author.Rules.{rules}
+use lib.ListN.{length, take, drop, set, get_or, replicate, length-set, length-take, length-drop}
+use Rattle.journal.proofs.Shifts.{moved, moved_more, moved_all}
+use Rattle.journal.proofs.force.shift.Goals as goal
+
+pub loop-i-preserved : goal.loop-i-preserved
+loop-i-preserved c =
+    let l = c.loop-i in
+    let a = c.args in
+    let step = moved_more (16 * a.m) l.i a.tail.now (omega arith) in
+    (omega arith, simp length-set l.invariant.1, ap (λ (x : List ℕ). set x l.i (get_or x (l.i + 16 * a.m) 0)) l.invariant.2 ∙ step)
