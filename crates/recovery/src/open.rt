@@ -95,7 +95,7 @@ fn recover(
 {
     let rows = s.rows;
     let t = s.counts;
-    let _n = bytes::copy(charts, copy);
+    copy.copy_from_slice(charts);
     redo(log, rows, copy);
     clear(tail);
     let c = backward(fuse, s, log, tail, copy, visits, scopes);

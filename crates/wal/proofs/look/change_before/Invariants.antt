@@ -1,0 +1,16 @@
+-- `wal::look::change_before` meets its contract.
+use Prim.Native.Nat.{◌+◌, ◌-◌, ◌*◌, ◌≤◌, ◌<◌}
+use mathlib.Core.Path.{◌≡◌, sym, ◌∙◌}
+use mathlib.Core.Logic.{⊎_elim}
+use native.Mathlib.Omega.{arith}
+use Rattle.tables_model.specs.Lookup.{previous}
+use Rattle.wal.specs.Looking.{row_of_part}
+use Rattle.wal.proofs.LookUps.{part-row, stops, finds, passes, begins-behind, stops-before}
+use Rattle.wal.proofs.look.change_before.Given as goal
+
+abbrev pub invariant-loop-n : goal.invariant-loop-n
+invariant-loop-n l = let look = row_of_part l.b l.base l.rows in
+    (l.base < l.lowest) × (l.first ≤ l.lowest) × (l.n ≤ l.last) × (l.n ≤ l.base + l.rows + 1) × (previous look l.maker.0 l.cell.0 l.first l.last ≡ previous look l.maker.0 l.cell.0 l.first l.n)
+
+abbrev pub decreases-loop-n : goal.decreases-loop-n
+decreases-loop-n l = l.n

@@ -1,0 +1,32 @@
+-- `wal::take_back::take_back` meets its contract. Assumes nothing.
+use Prim.Native.Nat.{◌-◌, ◌≤◌}
+use mathlib.Core.Path.{◌≡◌, sym, ◌∙◌}
+use native.Mathlib.Omega.{arith}
+use native.Mathlib.Nat.{sub-zero}
+use lib.ListN.{length}
+use Rattle.wal.specs.Writing.{Fits}
+use Rattle.wal.specs.TakeBack.{taking, next_to_fall, fall_all}
+use Rattle.wal.proofs.Counters.{counters, fits-again, counters-fallen}
+use Rattle.wal.proofs.Falling.{turn, turns-stop, turns-end}
+use borrow.Author.Rules.{rules}
+use Rattle.wal.proofs.take_back.take_back.Goals as goal
+
+pub returns-in_default : goal.returns-in_default
+unfolding next_to_fall
+returns-in_default c =
+    let l = c.loop-n in
+    sym (l.invariant.3 ∙ turns-stop _ _ _ _ _ c.loop-n-test.true (sym c.next_to_fall.ensures.0 ∙ c.in_default.is))
+
+pub loop-n-preserved : goal.loop-n-preserved
+unfolding next_to_fall
+loop-n-preserved c =
+    let l = c.loop-n in
+    let f = c.fall-d in
+    let e = l.invariant.3 ∙ turn _ _ _ _ _ c.loop-n-test.true _ (sym c.next_to_fall.ensures.0 ∙ c.in-At.is) in
+    let n = rw (← f.ensures) at (counters-fallen c.in-At.i (taking l.d l.log l.tail l.copy l.scopes) (counters l.invariant.1)) in
+    (omega arith, fits-again l.invariant.1 n f.auto.log f.auto.tail f.auto.copy, f.auto.scopes ∙ l.invariant.2, rw f.ensures e)
+
+pub returns : goal.returns
+returns c =
+    let l = c.loop-n in
+    sym (l.invariant.3 ∙ turns-end _ _ _ _ _ c.loop-n-test.false)
