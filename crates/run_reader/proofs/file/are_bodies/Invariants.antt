@@ -1,0 +1,14 @@
+-- `run_reader::file::are_bodies` meets its contract: what is left of the loop gives what the whole does. Assumes nothing.
+use mathlib.Core.Path.{◌≡◌, sym, ◌∙◌}
+use Prim.Native.Nat.{◌-◌, ◌≤◌}
+use native.Mathlib.Omega.{arith}
+use lib.ListN.{length}
+use Rattle.run_reader.specs.File.{session_entry_at, are_bodies}
+use Rattle.run_reader.proofs.Bodies.{gap, beyond, other, body, bodies-end}
+use Rattle.run_reader.proofs.file.are_bodies.Given as goal
+
+abbrev pub invariant-loop-i : goal.invariant-loop-i
+invariant-loop-i l = (l.i ≤ l.sessions) × (l.at ≤ length l.file) × (are_bodies l.sessions 0 (session_entry_at l.sessions) l.file ≡ are_bodies (l.sessions - l.i) l.i l.at l.file)
+
+abbrev pub decreases-loop-i : goal.decreases-loop-i
+decreases-loop-i l = l.sessions - l.i
