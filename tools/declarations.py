@@ -6,6 +6,7 @@ be reached than is meant, and never less.
 import functools
 import pathlib
 import re
+import sys
 from dataclasses import dataclass, field
 
 ROOT = pathlib.Path(__file__).resolve().parents[1]
@@ -19,14 +20,14 @@ def without_comments(path, text):
     return re.sub(r'//.*' if path.endswith('.rt') else r'(?m)(^|(?<=\s))--.*', '', text)
 
 
-# Parts of a text that can be a name or the end of one: `Call.begin` has two, `(now (log .entry))` three.
+# Parts of a text that can be a name or the end of one: `Call.begin` and `log.old` have two.
 WORDS = re.compile(r'[^\s(){}\[\],;.:&]+')
 
 
 @functools.lru_cache(maxsize=None)
 def parts(name):
-    """The words of a name: of `_else_` what stands between the places of its arguments."""
-    return frozenset(name.strip('_').split('_')) if name.startswith('_') or name.endswith('_') else frozenset([name])
+    """The words of a name: of `◌else◌` what stands between the places of its arguments."""
+    return frozenset(part for part in name.split('◌') if part) if '◌' in name else frozenset([name])
 
 
 @dataclass
@@ -68,7 +69,7 @@ class File:
 
 # ── Files of definitions and proofs ───────────────────────────────────────────────────────────────────────────────────
 
-USE = re.compile(r'use Rattle·(\w+?)(?:·(?:specs|proofs))?\.(specs|proofs)\.([\w\-.]+?)(?:\.\{([^}]*)\})?(?: as (\S+))?;?$')
+USE = re.compile(r'use Rattle\.(\w+)\.(specs|proofs)\.([\w\-.+]+?)(?:\.\{([^}]*)\})?(?: as (\S+))?;?$')
 DECLARES = re.compile(r'(?:(?:pub|abbrev|unfoldable) )*(?:(?:record|data) (?P<type>[^\s({:]+)|(?P<names>[^\s:(){}=]+(?: [^\s:(){}=]+)*)(?: \{[^}]*\})* :(?: |$))')
 MEMBER = re.compile(r' +(?:pub )?([^\s:(){}=]+(?: [^\s:(){}=]+)*) :(?: |$)')
 
@@ -77,16 +78,17 @@ def file_and_name(crate, folder, module):
     """The file of a module, and the type that it is the module of."""
     if not module.startswith('declared.'):
         return f'{crate}/{folder}/{module.replace(".", "/")}.antt', None
-    parts = [part for part in module.split('.')[1:] if part != 'the-variants']
+    parts = [part for part in module.split('.')[1:] if part != 'TheVariants']
     if len(parts) > 1:
         return f'{crate}/src/{"/".join(parts[:-1])}.rt', parts[-1]
     return f'{crate}/src/lib.rt', parts[-1]
 
 
 def add_use(file, line):
-    found = USE.match(line)
-    if not found:
-        return
+    owner = re.match(r'use Rattle\.(\w+)', line)
+    if not owner or not (ROOT / 'crates' / owner[1]).is_dir():
+        return  # of the toolchain's library
+    found = USE.match(line) or sys.exit(f'declarations: a `use` of another form: {line}')
     crate, folder, module, names, alias = found.groups()
     path, type_name = file_and_name(crate, folder, module)
     file.uses.add(path)
@@ -128,7 +130,7 @@ def read_definitions(file, path, lines, module=''):
             depth = min((len(line) - len(line.lstrip()) for line in body if line.strip()), default=0)
             read_definitions(file, path, [line[depth:] for line in body], plain(f'{module} {" ".join(head)}'))
             last = []
-        elif first.startswith(('unfolding ', 'infixr ', 'infixl ', 'infix ')):
+        elif first.startswith(('unfolding ', 'infixr ', 'infixl ', 'infix ')) or '/proofs/' in path and first.startswith('open '):
             continue
         elif found := DECLARES.match(first):
             says = plain('\n'.join(chunk))
@@ -155,7 +157,7 @@ class Function(Declaration):
     head: str = ''  # what stands before the name
     parameters: list = field(default_factory=list)  # `name: type`
     returns: str = ''
-    clauses: list = field(default_factory=list)  # ('requires' or 'ensures', text)
+    clauses: list = field(default_factory=list)  # ('requires' or 'ensures', with its name where it has one, text)
 
 
 def closing(text, start):
@@ -181,7 +183,7 @@ def split_parameters(text):
 
 FUNCTION = re.compile(r'(?m)^(?P<head>(?:#\[[^\]]*\]\s*)*(?:pub(?:\([a-z]+\))? )?(?:const )?(?:unsafe )?(?:extern "C" )?fn )(?P<name>\w+)\s*(?:<[^>]*>)?\(')
 RETURNS = re.compile(r'[^{;]*?(?=\s(?:requires|ensures)\b|\{|;)')
-CLAUSE = re.compile(r'\s*(requires|ensures)\s*(?=\{)')
+CLAUSE = re.compile(r'\s*((?:requires|ensures)(?: \*)?(?: \w+)?)\s*(?=\{)')
 
 
 def read_function(path, text, found):
@@ -198,14 +200,27 @@ def read_function(path, text, found):
 
 
 TYPE = re.compile(r'(?m)^(?:#\[[^\]]*\]\s*)*(?:pub(?:\([a-z]+\))? )?(?:struct|enum|const) (\w+)')
-CODE_USE = re.compile(r'(?m)^(?:pub )?use ([\w:]+)::(\w+);')
+CODE_USE = re.compile(r'(?m)^(?:pub )?use ([^;]*);')
+
+
+def brought_by(line):
+    """What a `use` of the code brings, each as a place, the name there and the name here: `a::{b, c as d}` is `a::b` and `a::c as d`."""
+    place, brace, rest = plain(line).partition('::{')
+    if brace and (not rest.endswith('}') or '{' in rest or not re.fullmatch(r'\w+(?:::\w+)*', place)):
+        sys.exit(f'declarations: a `use` of another form: {line}')
+    for part in rest.removesuffix('}').split(',') if brace else [place]:
+        found = re.fullmatch(r'((?:\w+::)*)(\w+)(?: as (\w+))?', part.strip())
+        if found and (brace or found[1]):
+            yield f'{place}::{found[1]}'.removesuffix('::') if brace else found[1].removesuffix('::'), found[2], found[3] or found[2]
+        elif part.strip():
+            sys.exit(f'declarations: a `use` of another form: {line}')
 
 
 def read_source(file, path, text):
     crate = path.partition('/')[0]
     for line in re.findall(r'(?m)^ghost (use [^;]*;)', text):
         add_use(file, plain(line))
-    for place, name in CODE_USE.findall(text):
+    for place, name, here in [brought for line in CODE_USE.findall(text) for brought in brought_by(line)]:
         first, *rest = place.split('::')
         if first == 'crate':
             owner = f'{crate}/src/'
@@ -213,7 +228,7 @@ def read_source(file, path, text):
             owner, rest = f'{crate}/src/', [first] + rest
         else:
             owner = f'{first}/src/'
-        file.brings.setdefault(name, (owner + ('/'.join(rest) or 'lib') + '.rt', name))
+        file.brings.setdefault(here, (owner + ('/'.join(rest) or 'lib') + '.rt', name))
     for found in TYPE.finditer(text):
         end = min(k for k in (text.find(';', found.end()), text.find('{', found.end())) if k >= 0)
         if text[end] == '{':
