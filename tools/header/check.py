@@ -12,7 +12,7 @@ The code of the header, without its comments, must be token by token the code th
   numbers and texts          the tables of docs/FORMAT.md, whose numbers are those of state/specs/Answers, case by case
   the version                the newest one of CHANGELOG.md
 
-Of the comments it checks the refusals that each call names: those of `ownNumbers` (state/specs/Contracts), in its order; those of format, open and a page alone are written here. The replay of tools/unit lists the same ones."""
+Of the comments it checks the refusals that each call names: those of `own_numbers` (state/specs/CallContracts), in its order; those of format, open and a page alone are written here. The replay of tools/unit lists the same ones."""
 import difflib
 import functools
 import pathlib
@@ -27,7 +27,7 @@ LIMITS = [
     ('LOG_LENGTH', 'LOG_LENGTH'), ('CHARTS_LENGTH', 'CHARTS_LENGTH'), ('ROWS', 'ROW_LIMIT'), ('ROW_LENGTH', 'ROW_LENGTH'), ('ROWS_WAITING', 'TAIL_LIMIT'),
     ('CELLS', 'CELL_LIMIT'), ('PAGES', 'PAGE_LIMIT'), ('PAGE_LENGTH', 'PAGE_LENGTH'), ('CELLS_PER_PAGE', 'PLACES'), ('VISITS', 'VISIT_LIMIT'),
     ('ACTIVE_VISITS', 'ACTIVE_LIMIT'), ('SCOPES', 'SCOPE_LIMIT')]
-BOUNDS = [('FORMAT_GRAMS', 'formatBound'), ('STORED_GRAMS', 'chartBound')]
+BOUNDS = [('FORMAT_GRAMS', 'format_bound'), ('STORED_GRAMS', 'chart_bound')]
 # The types of arguments, in Rattle and in C.
 TYPES = {'u8': 'uint8_t', 'u16': 'uint16_t', 'u32': 'uint32_t', 'u64': 'uint64_t', 'i16': 'int16_t', 'i32': 'int32_t'}
 
@@ -76,11 +76,6 @@ def of_specs():
     return known
 
 
-def camel(name):
-    first, *rest = name.lower().split('_')
-    return first + ''.join(word.capitalize() for word in rest)
-
-
 def snake(name):
     return re.sub(r'(?<!^)(?=[A-Z])', '_', name).upper()
 
@@ -115,7 +110,7 @@ def parameter(text):
 def functions():
     """The exported functions in their order, each with its parameters."""
     found = {}
-    for name, parameters, result in re.findall(r'^#\[no_mangle\]\npub extern "C" fn (\w+)\(([^)]*)\) -> (\w+)', read('crates/embed/src/lib.rt'), re.M):
+    for name, parameters, result in re.findall(r'^#\[unsafe\(no_mangle\)\]\npub extern "C" fn (\w+)\(([^)]*)\) -> (\w+)', read('crates/embed/src/lib.rt'), re.M):
         need(result == 'u64', f'embed/src/lib.rt: {name} gives back {result}')
         found[name] = [parameter(text.strip()) for text in parameters.split(',') if text.strip()]
     need(len(found) == read('crates/embed/src/lib.rt').count('extern "C"'), 'embed/src/lib.rt: a function of another form')
@@ -125,8 +120,8 @@ def functions():
 def takes():
     """The shift and the mask of each part of an answer."""
     text = read('crates/embed_model/specs/Packed.antt')
-    found = re.search(r'^answerIn r = answer \(r / (\d+) % (\d+)\) \(signed 32 \(r % (\d+)\)\)$', text, re.M)
-    counts = re.search(r'^writesIn r = record { rows = r / (\d+) % (\d+); pages = r / (\d+) }$', text, re.M)
+    found = re.search(r'^answer_in r = answer \(r / (\d+) % (\d+)\) \(signed 32 \(r % (\d+)\)\)$', text, re.M)
+    counts = re.search(r'^writes_in r = record { rows = r / (\d+) % (\d+); pages = r / (\d+) }$', text, re.M)
     need(found and counts, 'embed_model/specs/Packed: another form')
     number, numbers, values, rows, row_count, pages = (int(word) for word in (*found.groups(), *counts.groups()))
     # A number of 64 bits has no more pages than this.
@@ -140,9 +135,9 @@ def takes():
 
 def refused_by():
     """The numbers by which each function may be refused, by its name in C."""
-    lines = re.findall(r'^ownNumbers \(?Call\.(\w+)[^=]*= ((?:\d+ ∷ )*)\[\]$', read('crates/state/specs/Contracts.antt'), re.M)
-    found = {snake(name).lower(): [1, 5] + [int(word) for word in numbers.split(' ∷ ') if word] for name, numbers in lines}
-    # Format by `formats` (state/specs/Contracts), an opening by `opens` (the same), a page alone by `redoneAlone` (recovery_model/specs/PageAlone).
+    lines = re.findall(r'^own_numbers \(?Call\.(\w+)[^=]*= ((?:\d+ ∷ )*)\[\]$', read('crates/state/specs/CallContracts.antt'), re.M)
+    found = {name: [1, 5] + [int(word) for word in numbers.split(' ∷ ') if word] for name, numbers in lines}
+    # Format by `formats` (state/specs/CallContracts), an opening by `opens` (the same), a page alone by `redone_alone` (recovery_model/specs/PageAlone).
     return found | {'format': [1, 2], 'open': [1, 3, 16, 17, 4, 5], 'redo_page': [1, 14]}
 
 
@@ -164,7 +159,7 @@ def quoted(cell):
 
 def cases():
     """Each case of an answer in Rattle with its number, by the definition and by the code."""
-    by_definition = dict(re.findall(r'^numberAndValue \(?(\w+).* = (?:refusedBy |book\.answer |done )(.*)$', read('crates/state/specs/Answers.antt'), re.M))
+    by_definition = dict(re.findall(r'^number_and_value \(?(\w+).* = (?:refused_by |book\.answer |done )(.*)$', read('crates/state/specs/Answers.antt'), re.M))
     by_definition = {case: 0 if rest.startswith(('(', 'z')) else int(rest.split()[0]) for case, rest in by_definition.items()}
     by_code = {case: int(number) for case, number in re.findall(r'^        Answer::(\w+)(?:\(_\))? => (\d+),$', read('crates/state/src/answers.rt').partition('fn number_of')[2].partition('\n}')[0], re.M)}
     need(by_definition and by_definition == by_code, 'state/specs/Answers and state/src/answers.rt have not the same numbers')
@@ -204,18 +199,18 @@ def expected_code():
     """The header without its comments, from the sources."""
     code, specs, exported = of_code(), of_specs(), functions()
     for _, name in LIMITS:
-        need(code[name] == specs[camel(name)], f'rows/src/limits.rt: {name} is not that of book/specs/Limits')
-    need(code['NO_FUSE'] == specs['noFuse'], 'state/src/ram.rt: NO_FUSE is not that of state/specs/World')
+        need(code[name] == specs[name.lower()], f'rows/src/limits.rt: {name} is not that of book/specs/Limits')
+    need(code['NO_FUSE'] == specs['no_fuse'], 'state/src/ram.rt: NO_FUSE is not that of state/specs/World')
 
     first = next(iter(exported.values()))
     lent = [p for p in first if not p.constant]
     fields, stored = [p for p in lent if p.lent == 'array'], [p for p in lent if p.lent == 'slice']
     arrays = re.search(r'^pub record Arrays : Type 0 where\n((?:  pub \w+ : List ℕ\n)+)', read('crates/embed_model/specs/Arrays.antt'), re.M)
     need(arrays and [p.name for p in lent] == re.findall(r'pub (\w+)', arrays[1]), 'embed/src/lib.rt: not the arrays of embed_model/specs/Arrays, in their order')
-    lengths = dict(re.findall(r'^  pub (\w+) : length \(x \.\w+\) ≡ (\w+)$', read('crates/embed_model/specs/Arrays.antt'), re.M))
+    lengths = dict(re.findall(r'^  pub (\w+) : length x\.\w+ ≡ (\w+)$', read('crates/embed_model/specs/Arrays.antt'), re.M))
     for p in fields:
         # The length of the tail has no number of its own in the definitions.
-        length = specs['tailLimit'] * specs['rowLength'] if lengths[p.name] == 'tailLength' else specs[lengths[p.name]]
+        length = specs['tail_limit'] * specs['row_length'] if lengths[p.name] == 'tail_length' else specs[lengths[p.name]]
         need(code[p.length] == length, f'embed/src/lib.rt: {p.name} has not the length of embed_model/specs/Arrays')
     calls = {name: parameters[len(lent):] for name, parameters in exported.items() if name.endswith('_on')}
     for name in calls:
