@@ -1,5 +1,5 @@
-//! The comparison links the proved store: the archives that `rt staticlib embed` and
-//! `rt staticlib public_calls` write. The second is left out without the feature `public_calls`. Between the
+//! The comparison links the proved store: the archives that `tools/archive embed` and
+//! `tools/archive public_calls` write. The second is left out without the feature `public_calls`. Between the
 //! cases and the first of them lies the header for C: `src/header.c`, which calls its inline functions, is
 //! compiled here.
 

@@ -1,6 +1,6 @@
-//! The proved store: the functions of the archive that `rt staticlib embed` writes, and the arrays that they
+//! The proved store: the functions of the archive that `tools/archive embed` writes, and the arrays that they
 //! work on; the same as a `Store` of the comparison, which calls them by the inline functions of
-//! `include/chart_store.h`; and the proved program `relog`, which `rt check relog` builds.
+//! `include/chart_store.h`; and the proved program `relog`, which `rt ci` builds, or `rt run` in `crates/relog`.
 
 use crate::header;
 use crate::numbers::{self, unpacked, Garbage};
@@ -317,7 +317,7 @@ impl Store for ProvedStore {
 
 /// What the proved program writes for a run file.
 pub fn relog(file: &[u8]) -> String {
-    let program = concat!(env!("CARGO_MANIFEST_DIR"), "/../target/bin/relog");
+    let program = concat!(env!("CARGO_MANIFEST_DIR"), "/../crates/relog/out/relog");
     let mut child = Command::new(program)
         .stdin(Stdio::piped())
         .stdout(Stdio::piped())

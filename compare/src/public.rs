@@ -1,6 +1,6 @@
 //! The public calls of the proved store: the functions for Rattle, which are lent the scope table as a
 //! slice of structs. They are reached by the function of crate `public_calls`, from the archive that
-//! `rt staticlib public_calls` writes, which makes state and table of the numbers that it is handed.
+//! `tools/archive public_calls` writes, which makes state and table of the numbers that it is handed.
 
 use crate::numbers::{self, unpacked, Garbage, ENTRY, PLACE};
 use crate::store::{noise, with_length};

@@ -2,7 +2,7 @@
 # Proves the store for C, writes target/staticlib/libembed.a, which calls nothing but memset, builds chart.c against it and runs it. The header must compile as C99 and as C++ with no warning.
 set -eu
 cd "$(dirname "$0")/../.."
-rt staticlib embed
+tools/archive embed
 needed=$(nm -u target/staticlib/libembed.a | awk '$1 == "U" { print $2 }')
 [ "$needed" = memset ] || { echo "examples/c/run.sh: the archive calls something else than memset: $needed"; exit 1; }
 mkdir -p target/c

@@ -5,8 +5,7 @@
 # three lines that name x86-64, and check_ir.py refuses it where its meaning could depend on the size of a pointer. The archive is outside the proof all the same: besides what is trusted for
 # x86-64, trusted are this change of target, check_ir.py and LLVM's back end for ARM.
 #
-# The module, target/unit/module.ll, is kept: while the sources stay as they are this takes seconds. Else `rt staticlib embed` proves the crate again, which takes one or two minutes.
-# The variable OPT has the level of optimisation; -O3 is that of the proved archive.
+# `rt lib` proves the crate over what was proved before; from nothing that takes some minutes. The variable OPT has the level of optimisation; -O3 is that of the proved archive.
 set -euo pipefail
 cd "$(dirname "$0")/../.."
 
@@ -19,35 +18,39 @@ for tool in rt python3 arm-none-eabi-gcc arm-none-eabi-nm arm-none-eabi-size; do
 
 out=$PWD/target/unit
 archive=$PWD/target/staticlib/libembed.a
-kit=${RATTLE_HOME:-$(cd "$(dirname "$(readlink -f "$(command -v rt)")")/.." && pwd -P)}
-machine=$(uname -m)
-clang=/on/$machine/toolchain/bin/clang # in the kit
-ar=$kit/on/$machine/toolchain/bin/llvm-ar
+kit=$(dirname "$(rt doc)")
+clang=$kit/toolchain/bin/clang
+ar=$kit/toolchain/bin/llvm-ar
 
-# Runs `rt staticlib embed` with a kit of links in which clang alone is another: it keeps the module and the words that it is given, and goes on as the kit's own.
+# Runs `rt lib` for embed with a kit of links in which clang alone is another: it keeps the module and the words that it is given, and goes on as the kit's own. (rt looks for its kit where its own file lies, so that this one is a copy.)
 keep_module() {
-    local room level='' next file
+    local room part file
     room=$(mktemp -d)
     # shellcheck disable=SC2064 # the folder as it is named now
     trap "rm -rf '$room'" EXIT
-    for next in on "$machine" toolchain bin clang; do
-        mkdir -p "$room$level"
-        for file in "$kit$level"/*; do [ "${file##*/}" = "$next" ] || ln -s "$file" "$room$level/"; done
-        level=$level/$next
+    mkdir -p "$room/kit/bin" "$room/kit/toolchain/bin"
+    for part in '' /bin /toolchain /toolchain/bin; do
+        for file in "$kit$part"/*; do
+            case $part/${file##*/} in
+                /bin | /toolchain | /toolchain/bin | /toolchain/bin/clang) ;;
+                /bin/rt | /bin/rtlib.py) cp "$file" "$room/kit$part/" ;;
+                *) ln -s "$file" "$room/kit$part/" ;;
+            esac
+        done
     done
-    cat >"$room$clang" <<SCRIPT
+    cat >"$room/kit/toolchain/bin/clang" <<SCRIPT
 #!/bin/sh
 cp module.bc '$out/module.bc'
-printf '%s\n' "\$@" | sed 's,$room,$kit,' >>'$out/words'
-exec '$kit$clang' "\$@"
+printf '%s\n' "\$@" | sed 's,$room/kit,$kit,' >>'$out/words'
+exec '$clang' "\$@"
 SCRIPT
-    chmod +x "$room$clang"
-    rm -f "$out"/module.* "$out/words" "$out/stamp"
-    RATTLE_HOME=$room rt staticlib embed >"$out/said" 2>&1 || { cat "$out/said"; stop "rt staticlib embed failed"; }
-    [ -s "$out/module.bc" ] || stop "rt staticlib embed gave clang no module.bc"
+    chmod +x "$room/kit/toolchain/bin/clang"
+    rm -f "$out"/module.* "$out/words"
+    (cd crates/embed && "$room/kit/bin/rt" lib) >"$out/said" 2>&1 || { cat "$out/said"; stop "rt lib failed in crates/embed"; }
+    [ -s "$out/module.bc" ] || stop "rt lib gave clang no module.bc"
+    cmp crates/embed/out/libembed.a "$archive" || stop "rt lib gave another archive"
     # As text, with no pass run.
-    (cd "$out" && "$kit$clang" --no-default-config -Werror -x ir -S -emit-llvm -Xclang -disable-llvm-passes -O3 module.bc -o module.ll)
-    cp target/stamp/embed "$out/stamp"
+    (cd "$out" && "$clang" --no-default-config -Werror -x ir -S -emit-llvm -Xclang -disable-llvm-passes -O3 module.bc -o module.ll)
 }
 
 # compile FROM TO ..: clang with the kit's words, of which each FROM, there once, becomes TO; an empty TO leaves it out.
@@ -64,8 +67,8 @@ compile() {
         [ "$found" -eq 1 ] || stop "of the words that the kit gives clang, $found are $1, and one was expected: ${words[*]}"
         shift 2
     done
-    printf '%s\n' "$kit$clang" "${words[@]}" >"$out/command" # of the unit's module in the end, for mutants.py
-    (cd "$out" && "$kit$clang" "${words[@]}")
+    printf '%s\n' "$clang" "${words[@]}" >"$out/command" # of the unit's module in the end, for mutants.py
+    (cd "$out" && "$clang" "${words[@]}")
 }
 
 # change FROM TO: in the module for the unit, where FROM is in one line.
@@ -83,13 +86,13 @@ mkdir -p "$out/include"
 rm -f "$out/libembed-thumbv6m.a" "$out/include/chart_store.h" "$out"/*.o
 
 # The module, and that it is the archive's.
-rt check embed >"$out/said" 2>&1 || { cat "$out/said"; stop "the crate embed is not proved"; }
-if ! [ -s "$out/module.ll" ] || ! [ -f "$archive" ] || ! cmp -s target/stamp/embed "$out/stamp"; then keep_module; fi
+tools/archive embed
+keep_module
 members=$("$ar" t "$archive")
 [ "$(wc -l <<<"$members")" -eq 1 ] || stop "the proved archive has other members than one: $members"
 compile module.bc module.ll module.o x86-64.o
 "$ar" p "$archive" "$members" | cmp - "$out/x86-64.o" ||
-    stop "target/unit/module.ll, compiled for x86-64, does not give target/staticlib/libembed.a byte for byte: one of the two was changed. Without target/unit the next run makes both anew"
+    stop "target/unit/module.ll, compiled for x86-64, does not give target/staticlib/libembed.a byte for byte"
 python3 tools/unit/check_ir.py "$out/module.ll"
 
 # The change of target.
@@ -97,7 +100,7 @@ cp "$out/module.ll" "$out/thumbv6m.ll"
 change 'target datalayout = "e-m:e-p270:32:32-p271:32:32-p272:64:64-i64:64-i128:128-f80:128-n8:16:32:64-S128"' \
     'target datalayout = "e-m:e-p:32:32-Fi8-i64:64-v128:64:128-a:0:32-n32-S64"'
 change 'target triple = "x86_64-unknown-linux-gnu"' 'target triple = "thumbv6m-unknown-none-eabi"'
-change '"probe-stack"="inline-asm" "target-cpu"="x86-64"' '"target-cpu"="cortex-m0"'
+change '"probe-stack"="inline-asm" "stack-probe-size"="3072" "target-cpu"="x86-64-v2"' '"target-cpu"="cortex-m0"'
 compile --target=x86_64-unknown-linux-gnu --target=thumbv6m-none-eabi -march=x86-64 -mcpu=cortex-m0 -fPIC '' -O3 "${OPT:--O3}" module.bc thumbv6m.ll module.o thumbv6m.o
 
 # The functions are those of the proved archive, there is no variable, and nothing is needed but functions of the ARM run-time ABI for copies, fills and arithmetic of 64 bits.

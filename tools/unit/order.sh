@@ -1,7 +1,7 @@
 #!/usr/bin/env bash
 # order.sh host|model: on this machine or on the model every store to log and charts is seen, in the calls and openings of order.c: each call stores its rows one after another in the order of their
 # numbers, and then its page, each byte of a row or page once, the half of a page that has the mark last, and comes back to none that it has left. For this machine target/staticlib/libembed.a has to
-# be there (rt staticlib embed); for the model the archive for the unit (build.sh), and what order.sh host left: the same has to be stored on both.
+# be there (tools/archive embed); for the model the archive for the unit (build.sh), and what order.sh host left: the same has to be stored on both.
 set -euo pipefail
 cd "$(dirname "$0")/../.."
 out=target/unit
