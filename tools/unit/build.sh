@@ -22,7 +22,7 @@ kit=$(dirname "$(rt doc)")
 clang=$kit/toolchain/bin/clang
 ar=$kit/toolchain/bin/llvm-ar
 
-# Runs `rt lib` for embed with a kit of links in which clang alone is another: it keeps the module and the words that it is given, and goes on as the kit's own. (rt looks for its kit where its own file lies, so that this one is a copy.)
+# Runs `rt lib` for embed, as tools/archive does, with a kit of links in which clang alone is another: it keeps the module and the words that it is given, and goes on as the kit's own. (rt looks for its kit where its own file lies, so that this one is a copy.)
 keep_module() {
     local room part file
     room=$(mktemp -d)
@@ -46,7 +46,7 @@ exec '$clang' "\$@"
 SCRIPT
     chmod +x "$room/kit/toolchain/bin/clang"
     rm -f "$out"/module.* "$out/words"
-    (cd crates/embed && "$room/kit/bin/rt" lib) >"$out/said" 2>&1 || { cat "$out/said"; stop "rt lib failed in crates/embed"; }
+    (cd crates/embed && "$room/kit/bin/rt" lib --cpu=x86-64) >"$out/said" 2>&1 || { cat "$out/said"; stop "rt lib failed in crates/embed"; }
     [ -s "$out/module.bc" ] || stop "rt lib gave clang no module.bc"
     cmp crates/embed/out/libembed.a "$archive" || stop "rt lib gave another archive"
     # As text, with no pass run.
@@ -100,7 +100,7 @@ cp "$out/module.ll" "$out/thumbv6m.ll"
 change 'target datalayout = "e-m:e-p270:32:32-p271:32:32-p272:64:64-i64:64-i128:128-f80:128-n8:16:32:64-S128"' \
     'target datalayout = "e-m:e-p:32:32-Fi8-i64:64-v128:64:128-a:0:32-n32-S64"'
 change 'target triple = "x86_64-unknown-linux-gnu"' 'target triple = "thumbv6m-unknown-none-eabi"'
-change '"probe-stack"="inline-asm" "stack-probe-size"="3072" "target-cpu"="x86-64-v2"' '"target-cpu"="cortex-m0"'
+change '"probe-stack"="inline-asm" "stack-probe-size"="3072" "target-cpu"="x86-64"' '"target-cpu"="cortex-m0"'
 compile --target=x86_64-unknown-linux-gnu --target=thumbv6m-none-eabi -march=x86-64 -mcpu=cortex-m0 -fPIC '' -O3 "${OPT:--O3}" module.bc thumbv6m.ll module.o thumbv6m.o
 
 # The functions are those of the proved archive, there is no variable, and nothing is needed but functions of the ARM run-time ABI for copies, fills and arithmetic of 64 bits.

@@ -89,7 +89,7 @@ OUTSIDE = re.compile(
     | source_filename\ =\ "rattle"
     | declare\ void\ @llvm\.memmove\.p0\.p0\.i64\(ptr\ writeonly\ captures\(none\),\ ptr\ readonly\ captures\(none\),\ i64,\ i1\ immarg\)\ \#1
     | declare\ void\ @llvm\.memset\.p0\.i64\(ptr\ writeonly\ captures\(none\),\ i8,\ i64,\ i1\ immarg\)\ \#2
-    | attributes\ \#0\ =\ {\ nounwind\ "probe-stack"="inline-asm"\ "stack-probe-size"="3072"\ "target-cpu"="x86-64-v2"\ }
+    | attributes\ \#0\ =\ {\ nounwind\ "probe-stack"="inline-asm"\ "stack-probe-size"="3072"\ "target-cpu"="x86-64"\ }
     | attributes\ \#[12]\ =\ {\ nocallback\ nofree\ nounwind\ willreturn\ memory\(argmem:\ (?:readwrite|write)\)\ }
     | !llvm\.ident\ =\ !{!0}
     | !\d+\ =\ !{(?:!"rattle\ logic=[0-9a-f]+"|i8\ \d+,\ i8\ \d+)?}

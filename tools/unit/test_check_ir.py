@@ -76,7 +76,7 @@ declare void @llvm.memmove.p0.p0.i64(ptr writeonly captures(none), ptr readonly 
 
 declare void @llvm.memset.p0.i64(ptr writeonly captures(none), i8, i64, i1 immarg) #2
 
-attributes #0 = {{ nounwind "probe-stack"="inline-asm" "stack-probe-size"="3072" "target-cpu"="x86-64-v2" }}
+attributes #0 = {{ nounwind "probe-stack"="inline-asm" "stack-probe-size"="3072" "target-cpu"="x86-64" }}
 attributes #1 = {{ nocallback nofree nounwind willreturn memory(argmem: readwrite) }}
 attributes #2 = {{ nocallback nofree nounwind willreturn memory(argmem: write) }}
 
@@ -297,7 +297,7 @@ INSERTED = {
 KEEP = 'define internal void @"m::keep"(ptr noundef %a0, ptr noundef %a1) #0 {'
 INNER = 'define internal noundef i64 @"m::inner"(ptr noundef %a0, i64 noundef %a1) #0 {'
 OUTER = 'define noundef i64 @chart_outer(ptr noundef %a0, i64 noundef %a1) #0 {'
-ATTRIBUTES = 'attributes #0 = { nounwind "probe-stack"="inline-asm" "stack-probe-size"="3072" "target-cpu"="x86-64-v2" }'
+ATTRIBUTES = 'attributes #0 = { nounwind "probe-stack"="inline-asm" "stack-probe-size"="3072" "target-cpu"="x86-64" }'
 
 REPLACED = {
     'target': [
@@ -330,7 +330,7 @@ REPLACED = {
     ]
     + [
         (ATTRIBUTES, ATTRIBUTES.replace('nounwind', 'nounwind alignstack(16)')),
-        (ATTRIBUTES, ATTRIBUTES.replace('x86-64-v2', 'x86-64-v3')),
+        (ATTRIBUTES, ATTRIBUTES.replace('x86-64', 'x86-64-v3')),
     ],
     'head': [
         (KEEP, KEEP.replace('internal', 'linkonce_odr')),
