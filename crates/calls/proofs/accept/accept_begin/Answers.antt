@@ -1,0 +1,19 @@
+-- `calls::accept::accept_begin` meets its contract. Assumes nothing.
+use mathlib.Core.Path.{refl, ◌∙◌}
+use native.Mathlib.Omega.{arith}
+use native.Mathlib.Numerals.{add-one}
+use Rattle.book.specs.Calls.{Call}
+use Rattle.tables_model.specs.Rows.{index}
+use Rattle.calls.proofs.NoRefusal.{free-begin}
+use Rattle.calls.proofs.Leaving.{accepted-by}
+use borrow.Author.Rules.{rules}
+use Rattle.calls.proofs.accept.accept_begin.Goals as goal
+
+pub overflow_add-v : goal.overflow_add-v
+overflow_add-v c =
+    let free = free-begin (index c.args.t c.args.visits.now c.args.scopes.now) _ c.requires.free in
+    omega (arith, free.0)
+
+pub returns : goal.returns
+returns c charts =
+    accepted-by _ _ _ _ charts _ _ _ Call.begin c.requires _ _ _ _ _ _ _ _ (c.begin-a.ensures charts) _ (rw (add-one c.args.t.begun)) refl _ _ _ _ _ c.settle.ensures

@@ -1,0 +1,16 @@
+-- `calls::accept::accept_change` meets its contract. Assumes nothing.
+use mir.Facts.{to_z-of_z}
+use mathlib.Core.Path.{◌∙◌}
+use mathlib.Core.List.{[]}
+use Rattle.book.specs.Calls.{Call}
+use Rattle.calls.proofs.Leaving.{rows-by, accepted-by}
+use borrow.Author.Rules.{rules}
+use Rattle.calls.proofs.accept.accept_change.Goals as goal
+
+pub row_answer-answer-requires : goal.row_answer-answer-requires
+row_answer-answer-requires c = rows-by _ _ _ _ _ _ _ _ (Call.change _ _ _) c.requires _ _ _ _ _ _ _ _ (rw (to_z-of_z c.ranges.z) at (c.change-a.ensures []))
+
+pub returns : goal.returns
+returns c charts =
+    let answer = c.row_answer-answer.ensures in
+    accepted-by _ _ _ _ charts _ _ _ (Call.change _ _ _) c.requires _ _ _ _ _ _ _ _ (rw (to_z-of_z c.ranges.z) at (c.change-a.ensures charts)) _ answer.0 answer.1 _ _ _ _ _ c.settle.ensures

@@ -1,0 +1,15 @@
+-- `calls::accept::accept_commit` meets its contract. Assumes nothing.
+use mathlib.Core.Path.{◌∙◌}
+use mathlib.Core.List.{[]}
+use Rattle.book.specs.Calls.{Call}
+use Rattle.calls.proofs.Leaving.{rows-by, accepted-by}
+use borrow.Author.Rules.{rules}
+use Rattle.calls.proofs.accept.accept_commit.Goals as goal
+
+pub row_answer-answer-requires : goal.row_answer-answer-requires
+row_answer-answer-requires c = rows-by _ _ _ _ _ _ _ _ (Call.commit _) c.requires _ _ _ _ _ _ _ _ (c.commit-a.ensures [])
+
+pub returns : goal.returns
+returns c charts =
+    let answer = c.row_answer-answer.ensures in
+    accepted-by _ _ _ _ charts _ _ _ (Call.commit _) c.requires _ _ _ _ _ _ _ _ (c.commit-a.ensures charts) _ answer.0 answer.1 _ _ _ _ _ c.settle.ensures

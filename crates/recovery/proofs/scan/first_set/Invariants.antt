@@ -1,0 +1,11 @@
+-- `recovery::scan::first_set` meets its contract. The loop's invariant: the rows from `i` on give what all rows from `k` on give. Assumes nothing.
+use Rattle.std.proofs.Common.{◌≡◌, ◌+◌, ◌-◌, ◌*◌, sym, refl, ◌∙◌, arith, length-drop, length-take}
+use Rattle.recovery_model.specs.Scan.{first_set}
+use Rattle.recovery.proofs.ScanTurns.{blank_turn, set-turn, set-end}
+use Rattle.recovery.proofs.scan.first_set.Given as goal
+
+abbrev pub invariant-loop-i : goal.invariant-loop-i
+invariant-loop-i l = first_set (4096 - l.k) l.k l.log ≡ first_set (4096 - l.i) l.i l.log
+
+abbrev pub decreases-loop-i : goal.decreases-loop-i
+decreases-loop-i l = 4096 - l.i
