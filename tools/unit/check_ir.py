@@ -10,8 +10,12 @@ Why the rules below are enough
     The size of a pointer comes into a run in two ways. An index is taken modulo 2^32: inside an object of less than 2 GB that is the same index. And a pointer
     takes 4 bytes of memory, not 8. Offsets, lengths and the sizes of arrays are numbers of the text and stay, so that a pointer lies where it lay, and the 4
     bytes behind it are not used; only a place made by `alloca ptr` becomes smaller. The two runs take the same steps if
-      - a pointer is made, moved and used only by forms in which its size does not show: there is no conversion, comparison, choice or return of pointers, no
-        global, no indirect call (`form`, `outside`, `head`, `origin`), and no pointer is passed for a number or the other way round (`call`);
+      - a pointer is made, moved and used only by forms in which its size does not show: there is no conversion, comparison (but with null) or choice of pointers, no global, no
+        indirect call (`form`, `outside`, `head`, `origin`), and no pointer is passed for a number or the other way round (`call`). A pointer is given back only
+        as the first of a pair with a number of 64 bits, which in memory begins 8 bytes behind it on both machines;
+      - one function compares pointers, COPY_BITS, which copies n numbers from one address to another: it asks whether the second lies less than n bytes above
+        the first. In one object the distance is the same in both runs; in two objects it never does, since the n bytes from the first on are of one. The function
+        has to have the text that stands here, and where it copies no pointer may lie (`index`);
       - no function of the module has the name of one that the back end calls by itself, as `__aeabi_memmove` (`head`);
       - each byte of memory is used in one way, as a number's or as byte k of a pointer, whichever path leads to it (`bytes`). So no number is read from a
         pointer or from the 4 bytes behind it, and no pointer from a number. A copy goes byte by byte, has a length in numbers, and keeps that;
@@ -21,8 +25,8 @@ Why the rules below are enough
       - the functions for C take and return what has one size in C on both machines (`exported`).
 
 Rules for the processor
-    x86-64 takes an address that is not aligned, and a Cortex-M0 faults: no access asks for more than a multiple of its own size, and in a place of the module,
-    at a known offset, it has it (`alignment`). A unit has no guard page below its stack, and how deep that goes is measured, not proved: no function calls
+    x86-64 takes an address that is not aligned, and a Cortex-M0 faults: no access asks for more than a multiple of its own size (one that asks for
+    less is made byte by byte), and in a place of the module, at a known offset, it has it (`alignment`). A unit has no guard page below its stack, and how deep that goes is measured, not proved: no function calls
     itself, and none takes more stack as it runs (`recursion`, `form`).
 
 How it is decided
@@ -87,8 +91,8 @@ OUTSIDE = re.compile(
     r'''
     (?:;.*)?
     | source_filename\ =\ "rattle"
-    | declare\ void\ @llvm\.memmove\.p0\.p0\.i64\(ptr\ writeonly\ captures\(none\),\ ptr\ readonly\ captures\(none\),\ i64,\ i1\ immarg\)\ \#1
-    | declare\ void\ @llvm\.memset\.p0\.i64\(ptr\ writeonly\ captures\(none\),\ i8,\ i64,\ i1\ immarg\)\ \#2
+    | declare\ void\ @llvm\.memmove\.p0\.p0\.i64\(ptr\ writeonly\ captures\(none\),\ ptr\ readonly\ captures\(none\),\ i64,\ i1\ immarg\)\ \#[12]
+    | declare\ void\ @llvm\.memset\.p0\.i64\(ptr\ writeonly\ captures\(none\),\ i8,\ i64,\ i1\ immarg\)\ \#[12]
     | attributes\ \#0\ =\ {\ nounwind\ "probe-stack"="inline-asm"\ "stack-probe-size"="3072"\ "target-cpu"="x86-64"\ }
     | attributes\ \#[12]\ =\ {\ nocallback\ nofree\ nounwind\ willreturn\ memory\(argmem:\ (?:readwrite|write)\)\ }
     | !llvm\.ident\ =\ !{!0}
@@ -97,8 +101,9 @@ OUTSIDE = re.compile(
     re.X,
 )
 
-HEAD = re.compile(rf'define (internal )?(?:(void)|noundef (?:(zeroext) )?({NUMBER})) ({FUNCTION})\((.*)\) #0 {{')
-PARAMETER = re.compile(rf'(ptr|{NUMBER}) noundef (?:(zeroext) )?({REGISTER})')
+PAIR = r'{ ptr, i64 }'
+HEAD = re.compile(rf'define (internal )?(?:(void)|noundef (?:(zeroext) )?({NUMBER}|{PAIR})) ({FUNCTION})\((.*)\) #0 {{')
+PARAMETER = re.compile(rf'(ptr(?= noundef)|{NUMBER}) (?:noundef )?(?:(zeroext) )?({REGISTER})')
 
 # Forms in which no pointer takes part.
 NUMBERS_ONLY = re.compile(
@@ -119,8 +124,75 @@ LOAD = re.compile(rf'({REGISTER}) = load ({STORED}), ptr ({REGISTER}), align (\d
 STORE = re.compile(rf'store (?:ptr ({REGISTER})|(i8|i16|i32|i64) {OPERAND}), ptr ({REGISTER}), align (\d+)')
 COPY = re.compile(rf'call void @llvm\.memmove\.p0\.p0\.i64\(ptr ({REGISTER}), ptr ({REGISTER}), i64 (\d+), i1 false\)')
 FILL = re.compile(rf'call void @llvm\.memset\.p0\.i64\(ptr ({REGISTER}), i8 {OPERAND}, i64 (\d+), i1 false\)')
-CALL = re.compile(rf'(?:{REGISTER} = )?call (void|{NUMBER}) (?!@llvm\.)({FUNCTION})\((.*)\)')
+CALL = re.compile(rf'(?:({REGISTER}) = )?call (void|{NUMBER}|{PAIR}) (?!@llvm\.)({FUNCTION})\((.*)\)')
+LOAD_PAIR = re.compile(rf'({REGISTER}) = load {PAIR}, ptr ({REGISTER}), align (\d+)')
+PART = re.compile(rf'({REGISTER}) = extractvalue {PAIR} ({REGISTER}), ([01])')
+IS_NULL = re.compile(rf'{REGISTER} = icmp eq ptr ({REGISTER}), null')
+GIVE_BACK = re.compile(rf'ret {PAIR} ({REGISTER})')
 ARGUMENT = re.compile(rf'(?:(ptr) ({REGISTER})|({NUMBER}) {OPERAND})')
+
+# `core::ptr::copy_drop::copy_bits` of bytes, by its lines: the one function that compares pointers, and copies as many bytes as a register says.
+COPY_BITS = """
+start:
+  %r0 = alloca i64, align 8
+  %r1 = alloca i8, align 1
+  %r2 = alloca i64, align 8
+  %r3 = alloca ptr, align 8
+  %r4 = alloca i64, align 8
+  %r5 = alloca ptr, align 8
+  %r6 = alloca i8, align 1
+  %r7 = mul i64 %a2, 1
+  %r8 = ptrtoaddr ptr %a1 to i64
+  %r9 = ptrtoaddr ptr %a0 to i64
+  %r10 = sub i64 %r8, %r9
+  %r11 = icmp ult i64 %r10, %r7
+  br i1 %r11, label %inside.1, label %apart.2
+apart.2:
+  call void @llvm.memmove.p0.p0.i64(ptr %a1, ptr %a0, i64 %r7, i1 false)
+  ret void
+inside.1:
+  store i64 0, ptr %r0, align 8
+  br label %loop.4
+loop.4:
+  %r12 = load i64, ptr %r0, align 8, !noundef !
+  %r13 = icmp ult i64 %r12, %a2
+  %r14 = zext i1 %r13 to i8
+  store i8 %r14, ptr %r1, align 1
+  %r15 = load i8, ptr %r1, align 1, !range !, !noundef !
+  %r16 = trunc i8 %r15 to i1
+  br i1 %r16, label %then.5, label %else.6
+then.5:
+  br label %join.7
+else.6:
+  br label %after.3
+join.7:
+  %r17 = load i64, ptr %r0, align 8, !noundef !
+  %r18 = mul i64 %r17, 1
+  store i64 %r18, ptr %r2, align 8
+  %r19 = load i64, ptr %r2, align 8, !noundef !
+  %r20 = getelementptr inbounds nuw i8, ptr %a1, i64 %r19
+  store ptr %r20, ptr %r3, align 8
+  %r21 = load i64, ptr %r0, align 8, !noundef !
+  %r22 = mul i64 %r21, 1
+  store i64 %r22, ptr %r4, align 8
+  %r23 = load i64, ptr %r4, align 8, !noundef !
+  %r24 = getelementptr inbounds nuw i8, ptr %a0, i64 %r23
+  store ptr %r24, ptr %r5, align 8
+  %r25 = load ptr, ptr %r5, align 8, !noundef !
+  %r26 = load i8, ptr %r25, align 1, !noundef !
+  store i8 %r26, ptr %r6, align 1
+  %r27 = load i8, ptr %r6, align 1, !noundef !
+  %r28 = load ptr, ptr %r3, align 8, !noundef !
+  store i8 %r27, ptr %r28, align 1
+  br label %after.8
+after.8:
+  %r29 = load i64, ptr %r0, align 8, !noundef !
+  %r30 = add i64 %r29, 1
+  store i64 %r30, ptr %r0, align 8
+  br label %loop.4
+after.3:
+  ret void
+"""
 
 BYTES = {'i8': 1, 'i16': 2, 'i32': 4, 'i64': 8, 'ptr': 8}
 LENGTH_LIMIT = 2**20  # no place is longer: offsets and lengths of 32 bits are far above it
@@ -137,6 +209,12 @@ class Function:
     result: str
     parameters: list  # (type, register)
     body: list = field(default_factory=list)  # (line, text)
+
+
+def is_copy_bits(function):
+    """Whether the function has the text of COPY_BITS, but for comments and the numbers of what LLVM is told of loaded values, and its parameters."""
+    lines = [re.sub(r' +; preds = .*|(?<=!)\d+', '', text).rstrip() for _, text in function.body if text.strip()]
+    return lines == COPY_BITS.strip().split('\n') and function.parameters == [('ptr', '%a0'), ('ptr', '%a1'), ('i64', '%a2')] and function.result == 'void' and not function.exported
 
 
 def read_head(line, text, faults):
@@ -348,17 +426,28 @@ class Reader:
             (COPY, self.copy),
             (FILL, self.fill),
             (CALL, self.call),
+            (LOAD_PAIR, self.load_pair),
+            (PART, self.part),
+            (GIVE_BACK, self.give_back),
+            (IS_NULL, self.is_null),
         )
 
     def read(self, function):
         self.function = function
         self.blocks = 0 if function.body and BLOCK.fullmatch(function.body[0][1]) else 1  # the first block may have no label
         self.pointers = {}  # register -> address
+        self.pairs = {}  # register -> address of the pointer that is the first of the pair
         for k, (kind, register) in enumerate(function.parameters):
             if kind == 'ptr':
                 self.pointers[register] = (('parameter', function.name, k), 0)
                 if function.exported:
                     self.places.forbid_pointers(self.pointers[register], 'lent', function.line)
+        if is_copy_bits(function):
+            self.counts['functions that compare pointers'] += 1
+            for register in ('%a0', '%a1'):
+                place, _ = self.pointers[register]
+                self.places.access((place, None), 'i8', 1, function.line)
+            return
         for line, text in function.body:
             self.read_line(line, text)
 
@@ -418,6 +507,36 @@ class Reader:
             if address[1] is not None:
                 self.places.lead(address, self.pointers[register], line)
 
+    def load_pair(self, found, line):
+        """A pointer and, 8 bytes behind it, a number: with pointers of 4 bytes too, since the number has an alignment of 8."""
+        register, pointer, alignment = found.groups()
+        address = self.address(pointer, line)
+        self.places.access(address, 'ptr', int(alignment), line)
+        self.places.access((address[0], None if address[1] is None else address[1] + 8), 'i64', int(alignment), line)
+        self.check_natural('ptr', alignment, line)
+        self.counts['pointers loaded and stored'] += 1
+        self.pairs[register] = (('loaded', self.function.name, register), 0)
+        if address[1] is not None:
+            self.places.lead(address, self.pairs[register], line)
+
+    def part(self, found, line):
+        register, pair, number = found.groups()
+        if pair not in self.pairs:
+            self.faults.append(Fault(line, 'origin', pair))
+        elif number == '0':
+            self.pointers[register] = self.pairs[pair]
+
+    def is_null(self, found, line):
+        self.counts['comparisons with null'] += 1
+        self.address(found[1], line)
+
+    def give_back(self, found, line):
+        self.counts['pointers given back'] += 1
+        if found[1] not in self.pairs or self.function.result != PAIR:
+            self.faults.append(Fault(line, 'origin', found[1]))
+        else:
+            self.places.join(self.pairs[found[1]], (('result', self.function.name), 0), line)
+
     def store(self, found, line):
         stored, number, pointer, alignment = found.groups()
         address = self.address(pointer, line)
@@ -430,7 +549,7 @@ class Reader:
                 self.places.lead(address, self.start(target, ('stored', self.function.name, line), line), line)
 
     def check_natural(self, kind, alignment, line):
-        if int(alignment) != BYTES[kind]:
+        if int(alignment) not in (1, 2, 4, 8) or int(alignment) > BYTES[kind]:
             self.faults.append(Fault(line, 'alignment', f'{kind} at multiples of {alignment}'))
 
     def start(self, address, name, line):
@@ -457,7 +576,7 @@ class Reader:
         self.places.touch(address, length, line)
 
     def call(self, found, line):
-        result, name, words = found.groups()
+        register, result, name, words = found.groups()
         arguments = [ARGUMENT.fullmatch(word) for word in words.split(', ')] if words else []
         if not all(arguments):
             self.faults.append(Fault(line, 'form', found[0]))
@@ -467,6 +586,8 @@ class Reader:
             self.faults.append(Fault(line, 'call', found[0]))
             return
         self.calls[self.function.name].setdefault(name, line)
+        if result == PAIR:
+            self.pairs[register] = (('result', name), 0)
         for k, argument in enumerate(arguments):
             if argument[1]:
                 address = self.start(self.address(argument[2], line), ('passed', self.function.name, line, k), line)

@@ -43,6 +43,7 @@ start:
   %one = alloca ptr, align 8
   %numbers = alloca [32 x i8], align 8
   %halves = alloca [8 x i8], align 4
+  %lent = alloca [8 x i8], align 8
   store ptr %a0, ptr %pair, align 8
   %length = getelementptr i8, ptr %pair, i64 8
   store i64 %a1, ptr %length, align 8
@@ -52,6 +53,12 @@ start:
   br label %next
 
 next:                                             ; preds = %start
+  %given = call {{ ptr, i64 }} @"m::lend"(ptr %lent, i64 %a1, i32 1)
+  %back = extractvalue {{ ptr, i64 }} %given, 0
+  %long = extractvalue {{ ptr, i64 }} %given, 1
+  store i64 %long, ptr %back, align 1
+  %none = icmp eq ptr %a0, null
+  call void @"m::copy_bits"(ptr %lent, ptr %a0, i64 %long)
   %r0 = load ptr, ptr %one, align 8, !noundef !1
   %r1 = getelementptr inbounds nuw i8, ptr %r0, i64 %a1
   %r2 = load i8, ptr %r1, align 1, !range !2, !noundef !1
@@ -70,6 +77,20 @@ define noundef i64 @chart_outer(ptr noundef %a0, i64 noundef %a1) #0 {{
 start:
   %r0 = call i64 @"m::inner"(ptr %a0, i64 %a1)
   ret i64 %r0
+}}
+
+define internal noundef {{ ptr, i64 }} @"m::lend"(ptr noundef %a0, i64 noundef %a1, i32 %a2) #0 {{
+start:
+  %slice = alloca [16 x i8], align 8
+  store ptr %a0, ptr %slice, align 8
+  %length = getelementptr i8, ptr %slice, i64 8
+  store i64 %a1, ptr %length, align 8
+  %r0 = load {{ ptr, i64 }}, ptr %slice, align 8
+  ret {{ ptr, i64 }} %r0
+}}
+
+define internal void @"m::copy_bits"(ptr noundef %a0, ptr noundef %a1, i64 noundef %a2) #0 {{
+{check_ir.COPY_BITS.strip().replace('!range !', '!range !2').replace('!noundef !', '!noundef !1')}
 }}
 
 declare void @llvm.memmove.p0.p0.i64(ptr writeonly captures(none), ptr readonly captures(none), i64, i1 immarg) #1
@@ -97,7 +118,14 @@ INSERTED = {
         '%x = addrspacecast ptr %a0 to ptr addrspace(1)',
         '%x = bitcast ptr %a0 to ptr',
         '%x = icmp eq ptr %a0, %pair',
-        '%x = icmp eq ptr %a0, null',
+        '%x = icmp ne ptr %a0, null',
+        '%x = icmp ult ptr %a0, null',
+        '%x = load { i64, ptr }, ptr %pair, align 8',
+        '%x = load { ptr, i32 }, ptr %pair, align 8',
+        '%x = load { ptr, ptr }, ptr %pair, align 8',
+        '%x = load { ptr, i64 }, ptr %pair, align 8\nstore { ptr, i64 } %x, ptr %third, align 8',
+        '%x = load { ptr, i64 }, ptr %pair, align 8\n%y = extractvalue { ptr, i64 } %x, 2',
+        '%x = load { ptr, i64 }, ptr %pair, align 8\n%y = insertvalue { ptr, i64 } %x, i64 0, 1',
         '%x = select i1 true, ptr %a0, ptr %pair',
         '%x = freeze ptr %a0',
         '%x = load volatile i64, ptr %numbers, align 8',
@@ -196,6 +224,9 @@ INSERTED = {
         f'{MEMSET}(ptr %later, i8 0, i64 8, i1 false)',
         '%x = getelementptr i8, ptr %later, i64 8',
         '%x = load ptr, ptr %later, align 8',
+        '%x = extractvalue { ptr, i64 } %later, 0',
+        '%x = load { ptr, i64 }, ptr %pair, align 8\nret { ptr, i64 } %x',
+        'ret { ptr, i64 } %later',
     ],
     'bytes': [
         '%x = load i64, ptr %pair, align 8',
@@ -210,6 +241,14 @@ INSERTED = {
         f'{MEMMOVE}(ptr %third, ptr %other, i64 16, i1 false)\n%x = load i64, ptr %third, align 8',
         f'{MEMMOVE}(ptr %third, ptr %numbers, i64 8, i1 false)\n{MEMMOVE}(ptr %numbers, ptr %other, i64 8, i1 false)',
         f'{MEMMOVE}(ptr %pair, ptr %numbers, i64 8, i1 false)',
+        # by a pair
+        '%x = load { ptr, i64 }, ptr %numbers, align 8',
+        '%w = getelementptr i8, ptr %pair, i64 8\n%x = load { ptr, i64 }, ptr %w, align 8',
+        '%x = load { ptr, i64 }, ptr %pair, align 8\n%y = extractvalue { ptr, i64 } %x, 0\n%z = alloca ptr, align 8\nstore ptr %y, ptr %z, align 8\ncall void @"m::clear"(ptr %z)',
+        'call void @"m::copy_bits"(ptr %pair, ptr %numbers, i64 8)',
+        # through a pointer that is given back
+        '%x = call { ptr, i64 } @"m::lend"(ptr %numbers, i64 0, i32 1)\n%y = extractvalue { ptr, i64 } %x, 0\nstore ptr %a0, ptr %y, align 8',
+        '%x = call { ptr, i64 } @"m::lend"(ptr %pair, i64 0, i32 1)',
         # halves of a pointer
         f'%x = getelementptr i8, ptr %pair, i64 4\n{MEMMOVE}(ptr %halves, ptr %x, i64 4, i1 false)\n%y = load i32, ptr %halves, align 4',
         f'{MEMMOVE}(ptr %halves, ptr %pair, i64 4, i1 false)\n%y = load i32, ptr %halves, align 4',
@@ -234,6 +273,7 @@ INSERTED = {
           for copies in ((('w', 'third'), ('v', 'w'), ('u', 'v')), (('v', 'w'), ('w', 'third'), ('u', 'v')), (('v', 'w'), ('u', 'v'), ('w', 'third')))),
     ],
     'index': [
+        'call void @"m::copy_bits"(ptr %numbers, ptr %other, i64 8)',
         '%x = getelementptr i8, ptr %third, i64 %a1\n%y = load ptr, ptr %x, align 8',
         '%x = getelementptr i8, ptr %third, i64 %a1\nstore ptr %a0, ptr %x, align 8',
         '%x = getelementptr inbounds nuw i8, ptr %pair, i64 %a1\n%y = load i64, ptr %x, align 8',
@@ -278,9 +318,11 @@ INSERTED = {
         f'{MEMSET}(ptr %numbers, i8 0, i64 33, i1 false)',
     ],
     'alignment': [
-        '%x = load i64, ptr %numbers, align 4',
+        '%x = load i64, ptr %numbers, align 16',
         '%x = load i16, ptr %numbers, align 8',
-        'store ptr %a0, ptr %third, align 4',
+        '%x = load i32, ptr %numbers, align 3',
+        'store ptr %a0, ptr %third, align 16',
+        '%x = load { ptr, i64 }, ptr %pair, align 16',
         '%x = getelementptr i8, ptr %numbers, i64 18\n%y = load i32, ptr %x, align 4',
         '%x = getelementptr i8, ptr %third, i64 12\nstore ptr %a0, ptr %x, align 8',
         'store i64 0, ptr %halves, align 8',
@@ -348,6 +390,9 @@ REPLACED = {
         *((KEEP, KEEP.replace('ptr noundef %a0', f'ptr noundef {word} %a0')) for word in (
             'byval([8 x i8])', 'sret([8 x i8])', 'dereferenceable(8)', 'align 16', 'noalias', 'nonnull', 'inreg', 'nest')),
         (INNER, INNER.replace('noundef i64 @', 'noundef ptr @')),
+        (KEEP, KEEP.replace('ptr noundef %a0', 'ptr %a0')),
+        ('noundef { ptr, i64 } @', 'noundef { ptr, ptr } @'),
+        ('noundef { ptr, i64 } @', 'noundef { i64, ptr } @'),
         (INNER, INNER.replace('noundef i64 @', 'noundef i128 @')),
         (INNER, INNER.replace('noundef i64 @', 'signext i64 @')),
         ('attributes #0', 'define internal void @open(ptr noundef %a0) #0 {\nattributes #0'),
@@ -359,14 +404,21 @@ REPLACED = {
         (OUTER, OUTER.replace('%a1)', '%a1, i1 noundef %a2)')),
         (OUTER, OUTER.replace('%a1)', '%a1, i16 noundef zeroext %a2)')),
         ('define internal void @"m::clear"', 'define void @"m::clear"'),
+        ('define internal noundef { ptr, i64 } @"m::lend"', 'define noundef { ptr, i64 } @"m::lend"'),
     ],
     'form': [
         ('  %r3 = zext', '  %x = alloca i64, align 8\n  %r3 = zext'),
+        # the function that compares pointers, with another text or another head
+        ('  %r11 = icmp ult i64 %r10, %r7', '  %r11 = icmp ule i64 %r10, %r7'),
+        ('  %r10 = sub i64 %r8, %r9', '  %r10 = sub i64 %r9, %r8'),
+        ('ptr %a0, i64 %r7, i1 false)', 'ptr %a0, i64 %r9, i1 false)'),
+        ('  %r30 = add i64 %r29, 1', '  %r30 = add i64 %r29, 2'),
+        ('define internal void @"m::copy_bits"(ptr noundef %a0, ptr noundef %a1, i64 noundef %a2) #0', 'define internal void @"m::copy_bits"(ptr noundef %a1, ptr noundef %a0, i64 noundef %a2) #0'),
         ('start:\n  store i64 0, ptr %a0', '  br label %second\n\nsecond:\n  %x = alloca i64, align 8\n  store i64 0, ptr %a0'),
         ('  %r0 = load ptr, ptr %one', '  %x = phi ptr [ %a0, %start ]\n  %r0 = load ptr, ptr %one'),
         ('  br label %next', '  switch i128 0, label %next [\n  ]'),
         ('  br label %next', '  br label %next, !prof !3'),
-        ('start:\n  %r0', 'start:\n  ; a comment\n  %r0'),
+        ('start:\n  %r0 = call', 'start:\n  ; a comment\n  %r0 = call'),
     ],
     'origin': [  # the block that makes the pointer stands behind the one that uses it
         ('  store i64 0, ptr %a0, align 8\n', '  br label %second\n\nthird:\n  store i64 0, ptr %x, align 8\n  ret void\n\nsecond:\n  %x = getelementptr i8, ptr %a0, i64 0\n  br label %third\n\nlast:\n'),
@@ -399,7 +451,7 @@ PATTERNS = [
     ('lent', r'^(define noundef i64 @\w+\(ptr noundef (%\w+),.*\nstart:\n)', r'\1  store ptr \2, ptr \2, align 8\n'),
     ('lent', r'^(define internal noundef i64 @"embed::chart_\w+_on"\(ptr noundef (%\w+),.*\nstart:\n)', r'\1  %x = load ptr, ptr \2, align 8\n'),
     ('beyond', rf'^  {R} = alloca \[16 x i8\], align 8\n(  call void @llvm\.memmove\.p0\.p0\.i64\(ptr \1, .*, i64) 16', r'  \1 = alloca [16 x i8], align 8\n\2 24'),
-    ('alignment', rf'^  {R} = load i64, ptr {R}, align 8', r'  \1 = load i64, ptr \2, align 4'),
+    ('alignment', rf'^  {R} = load i64, ptr {R}, align 8', r'  \1 = load i64, ptr \2, align 16'),
     ('call', r'^(  %\w+ = call i64 @"embed::chart_\w+_on"\()ptr %a0', r'\1i64 %a6'),
     ('form', r'^(  call void @llvm\.memmove.*, i64) \d+,', r'\1 %r0,'),
     ('form', rf'^  {R} = load ptr, ptr {R}.*\n', r'\g<0>  %x = ptrtoint ptr \1 to i64\n'),
