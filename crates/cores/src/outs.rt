@@ -21,7 +21,7 @@ pub struct Out {
 }
 
 pub fn out_of(r: Result, t: [Scope; SCOPE_LIMIT]) -> Out
-    ensures* { λ o. ⌜ o ≡ record { result = r; table = t } ⌝ }
+    ensures { result ≡ record { result = r; table = t } }
 {
     Out {
         result: r,
@@ -45,7 +45,7 @@ pub fn table_of(o: Out) -> [Scope; SCOPE_LIMIT]
 
 // This answer, state and table; nothing was stored.
 pub(crate) fn out_with(answer: Answer, state: State, table: [Scope; SCOPE_LIMIT]) -> Out
-    ensures* { λ r. ⌜ r ≡ record { result = record { state = state; answer = answer; writes = record { rows = 0; pages = 0 } }; table = table } ⌝ }
+    ensures { result ≡ record { result = record { state = state; answer = answer; writes = record { rows = 0; pages = 0 } }; table = table } }
 {
     let none = no_writes();
     Out {
@@ -61,10 +61,10 @@ pub(crate) fn out_with(answer: Answer, state: State, table: [Scope; SCOPE_LIMIT]
 // What a call on the flat tables and a tail came to.
 pub(crate) fn out_after(o: Outcome, visits: &[u16], tail: [u8; TAIL_LENGTH], flat: &[u16]) -> Out
     requires { Flat (length visits.now) (length flat.now) }
-    ensures* { λ r. ⌜ r ≡ record {
+    ensures { result ≡ record {
       result = record { state = state_after o.control (tables_in o.counts visits.now) tail; answer = o.answer; writes = o.writes };
       table = map scope_of (entries flat.now);
-    } ⌝ }
+    } }
 {
     let state = state_after(o, visits, tail);
     let table = table_from(flat);

@@ -23,7 +23,7 @@ pub struct Out {
 }
 
 pub fn out_of(r: Result, t: [Scope; ENTRIES]) -> Out
-    ensures* { λ o. ⌜ o ≡ record { result = r; table = t } ⌝ }
+    ensures { result ≡ record { result = r; table = t } }
 {
     Out {
         result: r,
