@@ -1,0 +1,75 @@
+-- `embed::run::change` meets its contract. Assumes nothing.
+use mathlib.Core.Path.{◌≡◌, sym, ◌∙◌}
+use mathlib.Core.Bool.{true, ◌&&◌}
+use lib.ListN.{length}
+use lib.Dec.{eqb}
+use borrow.Author.Tests.{not-true, not-false}
+use mir.Syntax.{w16}
+use mir.Facts.{to_z-of_z}
+use Rattle.book.specs.Limits.{log_length, charts_length}
+use Rattle.book.specs.Calls.{Call, Typed}
+use Rattle.rows.proofs.Fit.{amount-in-range}
+use Rattle.state.specs.Answers.{number_and_value}
+use Rattle.book.specs.Book.{refused_by}
+use Rattle.state.specs.World.{right_lengths}
+use Rattle.embed_model.specs.Arrays.{Arrays, arrays, world_in, RamLengths}
+use Rattle.embed_model.proofs.Refused.{call-refused}
+use Rattle.embed.proofs.Calling.{wrong-stored, right-stored, stored-lengths, number_in, refused, passes, accepts, accepted-call}
+use borrow.Author.Rules.{rules}
+use Rattle.embed.proofs.run.change.Goals as goal
+
+pub returns-then-not-stored_fit : goal.returns-then-not-stored_fit
+returns-then-not-stored_fit c =
+    let given : Arrays = let a = c.args in arrays a.head.now a.visits.now a.scopes.now a.tail.now a.copy.now a.log.now a.charts.now in
+    let call : Call = Call.change c.args.visit c.args.cell c.args.amount in
+    let long : RamLengths given = c.requires in
+    call-refused given long _ c.packed.ensures (wrong-stored given long (sym c.stored_fit.ensures ∙ c.if-not-stored_fit.true)) call
+
+pub returns-then-number_of-ne0 : goal.returns-then-number_of-ne0
+returns-then-number_of-ne0 c =
+    let given : Arrays = let a = c.args in arrays a.head.now a.visits.now a.scopes.now a.tail.now a.copy.now a.log.now a.charts.now in
+    let call : Call = Call.change c.args.visit c.args.cell c.args.amount in
+    let long : RamLengths given = c.requires in
+    let typed : Typed call = rw (amount-in-range c.args.amount c.ranges.amount) tt in
+    let fit : eqb (length c.args.log.now) log_length && eqb (length c.args.charts.now) charts_length ≡ true = sym c.stored_fit.ensures ∙ c.if-not-stored_fit.false in
+    let right : right_lengths (world_in given) ≡ true = right-stored given long fit in
+    let checked : number_and_value c.check_change-refusal.result ≡ refused_by (number_in given call) = let x = c.args in rw (c.control_in-c.ensures, c.counts_in-t.ensures) at (c.check_change-refusal.ensures x.amount) in
+    refused call given right typed long _ _ c.packed-then-number_of-ne0.ensures checked (λ z. c.if-number_of-ne0.true (c.number_of.ensures ∙ z))
+
+pub accept_change-r-requires : goal.accept_change-r-requires
+accept_change-r-requires c =
+    let given : Arrays = let a = c.args in arrays a.head.now a.visits.now a.scopes.now a.tail.now a.copy.now a.log.now a.charts.now in
+    let call : Call = Call.change c.args.visit c.args.cell c.args.amount in
+    let long : RamLengths given = c.requires in
+    let fit : eqb (length c.args.log.now) log_length && eqb (length c.args.charts.now) charts_length ≡ true = sym c.stored_fit.ensures ∙ c.if-not-stored_fit.false in
+    let checked : number_and_value c.check_change-refusal.result ≡ refused_by (number_in given call) = let x = c.args in rw (c.control_in-c.ensures, c.counts_in-t.ensures) at (c.check_change-refusal.ensures x.amount) in
+    let free : number_in given call ≡ 0 = passes call given _ checked (sym c.number_of.ensures ∙ c.if-number_of-ne0.false) in
+    let stored = stored-lengths given fit in
+    rw (c.control_in-c.ensures, c.counts_in-t.ensures, to_z-of_z {w = w16} {z = c.args.amount} c.ranges.amount) (accepts call given long stored.0 free)
+
+pub finish-requires : goal.finish-requires
+finish-requires c =
+    let given : Arrays = let a = c.args in arrays a.head.now a.visits.now a.scopes.now a.tail.now a.copy.now a.log.now a.charts.now in
+    let long : RamLengths given = c.requires in
+    (long.head, (c.accept_change-r.ensures c.args.charts.now).bounded, (c.accept_change-r.ensures c.args.charts.now).few)
+
+pub returns : goal.returns
+returns c =
+    let given : Arrays = let a = c.args in arrays a.head.now a.visits.now a.scopes.now a.tail.now a.copy.now a.log.now a.charts.now in
+    let call : Call = Call.change c.args.visit c.args.cell c.args.amount in
+    let long : RamLengths given = c.requires in
+    let typed : Typed call = rw (amount-in-range c.args.amount c.ranges.amount) tt in
+    let fit : eqb (length c.args.log.now) log_length && eqb (length c.args.charts.now) charts_length ≡ true = sym c.stored_fit.ensures ∙ c.if-not-stored_fit.false in
+    let right : right_lengths (world_in given) ≡ true = right-stored given long fit in
+    let checked : number_and_value c.check_change-refusal.result ≡ refused_by (number_in given call) = let x = c.args in rw (c.control_in-c.ensures, c.counts_in-t.ensures) at (c.check_change-refusal.ensures x.amount) in
+    let free : number_in given call ≡ 0 = passes call given _ checked (sym c.number_of.ensures ∙ c.if-number_of-ne0.false) in
+    let left = rw (c.control_in-c.ensures, c.counts_in-t.ensures, to_z-of_z {w = w16} {z = c.args.amount} c.ranges.amount) at (c.accept_change-r.ensures c.args.charts.now) in
+    let e = c.finish.ensures in
+    let kept = c.accept_change-r.auto in
+    accepted-call call typed given right free _ _ _ _ _ _ _ left _ e.0 _ e.1 e.2 (record {
+      head = c.finish.auto.head ∙ long.head;
+      visits = kept.visits ∙ long.visits;
+      scopes = kept.scopes ∙ long.scopes;
+      tail = kept.tail ∙ long.tail;
+      copy = kept.copy ∙ long.copy;
+    })
