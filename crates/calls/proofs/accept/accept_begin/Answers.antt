@@ -1,12 +1,11 @@
 -- `calls::accept::accept_begin` meets its contract. Assumes nothing.
-use mathlib.Core.Path.{refl, ◌∙◌}
+use mathlib.Core.Path.{refl}
 use native.Mathlib.Omega.{arith}
 use native.Mathlib.Numerals.{add-one}
 use Rattle.book.specs.Calls.{Call}
 use Rattle.tables_model.specs.Rows.{index}
 use Rattle.calls.proofs.NoRefusal.{free-begin}
 use Rattle.calls.proofs.Leaving.{accepted-by}
-use borrow.Author.Rules.{rules}
 use Rattle.calls.proofs.accept.accept_begin.Goals as goal
 
 pub overflow_add-v : goal.overflow_add-v

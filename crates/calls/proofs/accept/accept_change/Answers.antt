@@ -1,10 +1,8 @@
 -- `calls::accept::accept_change` meets its contract. Assumes nothing.
 use mir.Facts.{to_z-of_z}
-use mathlib.Core.Path.{◌∙◌}
 use mathlib.Core.List.{[]}
 use Rattle.book.specs.Calls.{Call}
 use Rattle.calls.proofs.Leaving.{rows-by, accepted-by}
-use borrow.Author.Rules.{rules}
 use Rattle.calls.proofs.accept.accept_change.Goals as goal
 
 pub row_answer-answer-requires : goal.row_answer-answer-requires

@@ -3,7 +3,6 @@ use mathlib.Core.Path.{refl}
 use Rattle.book.specs.Calls.{Call}
 use Rattle.calls.proofs.NoRefusal.{free-flush}
 use Rattle.calls.proofs.Leaving.{accepted-by}
-use borrow.Author.Rules.{rules}
 use Rattle.calls.proofs.accept.accept_flush.Goals as goal
 
 pub flush-d-requires : goal.flush-d-requires

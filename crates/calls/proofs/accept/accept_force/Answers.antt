@@ -4,7 +4,6 @@ use Rattle.book.specs.Calls.{Call}
 use Rattle.calls_model.specs.Acts.{core}
 use Rattle.calls.proofs.CallSteps.{forces}
 use Rattle.calls.proofs.Leaving.{accepted-by}
-use borrow.Author.Rules.{rules}
 use Rattle.calls.proofs.accept.accept_force.Goals as goal
 
 pub returns : goal.returns

@@ -1,9 +1,7 @@
 -- `calls::accept::accept_hand_over` meets its contract. Assumes nothing.
-use mathlib.Core.Path.{◌∙◌}
 use mathlib.Core.List.{[]}
 use Rattle.book.specs.Calls.{Call}
 use Rattle.calls.proofs.Leaving.{rows-by, accepted-by}
-use borrow.Author.Rules.{rules}
 use Rattle.calls.proofs.accept.accept_hand_over.Goals as goal
 
 pub row_answer-answer-requires : goal.row_answer-answer-requires

@@ -8,7 +8,6 @@ use Rattle.book.specs.Book.{done}
 use Rattle.calls_model.specs.Acts.{core}
 use Rattle.calls.proofs.CallSteps.{reads}
 use Rattle.calls.proofs.Leaving.{accepted-by, nothing-done}
-use borrow.Author.Rules.{rules}
 use Rattle.calls.proofs.accept.accept_read.Reads as reads
 use Rattle.calls.proofs.accept.accept_read.Goals as goal
 

@@ -5,7 +5,6 @@ use Rattle.wal.specs.TakeBack.{taking}
 use Rattle.wal.proofs.Counters.{counters, fits-again, counters-fall_all}
 use Rattle.calls_model.specs.Acts.{core}
 use Rattle.calls.proofs.CallSteps.{aborts}
-use borrow.Author.Rules.{rules}
 use Rattle.calls.proofs.act.abort.Goals as goal
 
 pub append-control-requires : goal.append-control-requires

@@ -9,7 +9,6 @@ use Rattle.wal.proofs.Counters.{counters, fits-again, counters-written}
 use Rattle.calls_model.specs.Acts.{core}
 use Rattle.calls.proofs.NoRefusal.{free-begin}
 use Rattle.calls.proofs.CallSteps.{begins}
-use borrow.Author.Rules.{rules}
 use Rattle.calls.proofs.act.begin.Goals as goal
 
 pub overflow_add-v : goal.overflow_add-v

@@ -6,7 +6,6 @@ use Rattle.tables_model.specs.Rows.{grows_by, index}
 use Rattle.calls_model.specs.Acts.{core}
 use Rattle.calls.proofs.NoRefusal.{free-change}
 use Rattle.calls.proofs.CallSteps.{changes}
-use borrow.Author.Rules.{rules}
 use Rattle.calls.proofs.act.change.Goals as goal
 
 pub after_change-counts-requires : goal.after_change-counts-requires

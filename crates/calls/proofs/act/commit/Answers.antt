@@ -4,7 +4,6 @@ use Rattle.wal.specs.Writing.{ram}
 use Rattle.wal.proofs.Counters.{counters, fits-again, counters-written}
 use Rattle.calls_model.specs.Acts.{core}
 use Rattle.calls.proofs.CallSteps.{commits}
-use borrow.Author.Rules.{rules}
 use Rattle.calls.proofs.act.commit.Goals as goal
 
 pub force-control-requires : goal.force-control-requires

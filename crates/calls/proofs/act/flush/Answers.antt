@@ -4,7 +4,6 @@ use mathlib.Core.Path.{◌≡◌}
 use native.Mathlib.Omega.{arith}
 use Rattle.calls_model.specs.Acts.{core}
 use Rattle.calls.proofs.CallSteps.{flushes}
-use borrow.Author.Rules.{rules}
 use Rattle.calls.proofs.act.flush.Goals as goal
 
 pub returns : goal.returns

@@ -1,7 +1,6 @@
 -- `calls::act::hand_over` meets its contract. Assumes nothing.
 use Rattle.calls_model.specs.Acts.{core}
 use Rattle.calls.proofs.CallSteps.{hands-over}
-use borrow.Author.Rules.{rules}
 use Rattle.calls.proofs.act.hand_over.Goals as goal
 
 pub returns : goal.returns

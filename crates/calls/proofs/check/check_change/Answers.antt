@@ -2,12 +2,7 @@
 use mathlib.Core.Path.{sym, ◌∙◌}
 use mathlib.Core.List.{[]}
 use native.Mathlib.Omega.{arith}
-use borrow.Author.Tests.{not-true, not-false}
-use Rattle.book.specs.Calls.{Call}
-use Rattle.tables_model.specs.Layout.{entries}
-use Rattle.tables_model.specs.Visits.{tables_in}
-use Rattle.calls.proofs.Performing.{ready, when-not-ready, when-ready}
-use borrow.Author.Rules.{rules}
+use Rattle.calls.proofs.Performing.{ready}
 use Rattle.calls.proofs.check.check_change.Goals as goal
 
 pub overflow_add-c : goal.overflow_add-c

@@ -1,15 +1,11 @@
 -- `calls::check::check_end` meets its contract. Assumes nothing.
 use mathlib.Core.Path.{sym, ◌∙◌}
 use mathlib.Core.List.{[]}
-use borrow.Author.Tests.{not-true, not-false}
 use Rattle.book.specs.Calls.{Call}
 use Rattle.tables_model.specs.Visits.{tables_in}
 use Rattle.calls.proofs.Performing.{ready, when-not-ready, when-ready}
 use Rattle.calls_model.specs.Refusals.{refusal_by}
-use borrow.Author.Rules.{rules}
 use Rattle.calls.proofs.check.check_end.Goals as goal
-
-
 
 pub returns-then-not-is_ready : goal.returns-then-not-is_ready
 returns-then-not-is_ready c scopes =

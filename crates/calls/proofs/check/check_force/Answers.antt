@@ -2,9 +2,8 @@
 use mathlib.Core.Path.{sym, ◌∙◌}
 use Rattle.book.specs.Calls.{Call}
 use Rattle.tables_model.specs.Visits.{tables_in}
-use Rattle.calls.proofs.Performing.{when-not-ready, when-ready}
+use Rattle.calls.proofs.Performing.{when-ready}
 use Rattle.calls_model.specs.Refusals.{refusal_by}
-use borrow.Author.Rules.{rules}
 use Rattle.calls.proofs.check.check_force.Goals as goal
 
 pub returns-then-is_ready : goal.returns-then-is_ready

@@ -2,16 +2,12 @@
 use mathlib.Core.Path.{sym, ◌∙◌}
 use mathlib.Core.List.{[]}
 use native.Mathlib.Omega.{arith}
-use borrow.Author.Tests.{not-true, not-false}
 use Rattle.book.specs.Calls.{Call}
 use Rattle.tables_model.specs.Layout.{entries}
 use Rattle.tables_model.specs.Visits.{tables_in}
 use Rattle.calls_model.specs.Refusals.{refusal_by}
 use Rattle.calls.proofs.Performing.{ready, when-not-ready, when-ready}
-use borrow.Author.Rules.{rules}
 use Rattle.calls.proofs.check.check_hand_over.Goals as goal
-
-
 
 pub returns-then-not-is_ready : goal.returns-then-not-is_ready
 returns-then-not-is_ready c =

@@ -3,7 +3,6 @@ use Prim.Native.Nat.{◌+◌}
 use native.Mathlib.Omega.{arith}
 use borrow.Author.Tests.{le-leb, lt-leb}
 use Rattle.calls_model.specs.Perform.{is_coherent}
-use borrow.Author.Rules.{rules}
 use Rattle.calls.proofs.check.is_coherent.Goals as goal
 
 pub returns-then-c-gt-TAIL_LIMIT : goal.returns-then-c-gt-TAIL_LIMIT

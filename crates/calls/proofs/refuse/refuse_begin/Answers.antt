@@ -1,7 +1,6 @@
 -- `calls::refuse::refuse_begin` meets its contract. Assumes nothing.
 use borrow.Author.Tests.{le-leb, lt-leb}
 use Rattle.calls_model.specs.Refusals.{refusal_by}
-use borrow.Author.Rules.{rules}
 use Rattle.calls.proofs.refuse.refuse_begin.Goals as goal
 
 pub returns-then-t-ge-VISITS : goal.returns-then-t-ge-VISITS

@@ -1,6 +1,5 @@
 -- `calls::refuse::refuse_change` meets its contract. Assumes nothing.
 use Rattle.calls_model.specs.Refusals.{refusal_by}
-use borrow.Author.Rules.{rules}
 use Rattle.calls.proofs.refuse.refuse_change.Goals as goal
 
 pub returns-then-not-is_listed : goal.returns-then-not-is_listed

@@ -1,5 +1,5 @@
 -- `charts::charts::apply` meets its contract. Beyond the last page there is nothing to move. Assumes nothing.
-use Rattle.std.proofs.Common.{◌≡◌, ◌+◌, ◌-◌, ◌*◌, ◌/◌, arith, to_z-of_z, rules}
+use Rattle.std.proofs.Common.{◌≡◌, ◌+◌, ◌-◌, ◌*◌, ◌/◌, arith, to_z-of_z}
 use Rattle.charts.specs.Moves.{charts_moved}
 use Rattle.charts.proofs.Parts.{moved-beyond}
 use Rattle.charts.proofs.charts.apply.Goals as goal

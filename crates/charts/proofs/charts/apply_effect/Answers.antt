@@ -1,5 +1,4 @@
 -- `charts::charts::apply_effect` meets its contract. Assumes nothing.
-use Rattle.std.proofs.Common.{to_z-of_z, w16, rules}
 use Rattle.charts.specs.Moves.{charts_moved}
 use Rattle.charts.proofs.charts.apply_effect.Goals as goal
 

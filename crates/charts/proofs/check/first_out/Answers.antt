@@ -1,9 +1,5 @@
 -- `charts::check::first_out` meets its contract.
-use Rattle.std.proofs.Common.{◌≡◌, ℕ, ◌-◌, ◌≤◌, Bool, sym, refl, ◌∙◌, arith, to_z-of_z}
-use Rattle.book.specs.Pages.{page_of}
-use Rattle.book.specs.Numbers.{within}
-use Rattle.book.specs.Lists.{first_failing}
-use Rattle.book.specs.Limits.{chart_bound}
+use Rattle.std.proofs.Common.{◌-◌, sym, ◌∙◌, arith, to_z-of_z}
 use Rattle.charts.proofs.Turns.{passed, failed, all-passed}
 use Rattle.charts.proofs.check.first_out.Goals as goal
 

@@ -1,5 +1,5 @@
 -- `charts::check::is_sound` meets its contract. Assumes nothing.
-use Rattle.std.proofs.Common.{sym, ◌∙◌, rules, eq-eqb, ne_eqb}
+use Rattle.std.proofs.Common.{sym, ◌∙◌, eq-eqb, ne_eqb}
 use Rattle.charts.specs.Checks.{is_sound}
 use Rattle.charts.proofs.check.is_sound.Goals as goal
 

@@ -1,5 +1,5 @@
 -- `charts::page::build_page` meets its contract. Assumes nothing.
-use Rattle.std.proofs.Common.{◌∙◌, rules}
+use Rattle.std.proofs.Common.{◌∙◌}
 use Rattle.charts.proofs.Built.{built}
 use Rattle.charts.proofs.page.build_page.Goals as goal
 

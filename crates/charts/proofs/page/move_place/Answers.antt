@@ -1,5 +1,5 @@
 -- `charts::page::move_place` meets its contract. Assumes nothing.
-use Rattle.std.proofs.Common.{◌∙◌, to_z-of_z, rules}
+use Rattle.std.proofs.Common.{◌∙◌, to_z-of_z}
 use Rattle.charts.specs.Moves.{page_moved}
 use Rattle.charts.proofs.page.move_place.Goals as goal
 

@@ -1,5 +1,4 @@
 -- `charts::page::read_mark` meets its contract. Assumes nothing.
-use Rattle.std.proofs.Common.{rules}
 use Rattle.book.specs.Pages.{page_of}
 use Rattle.charts.proofs.page.read_mark.Goals as goal
 

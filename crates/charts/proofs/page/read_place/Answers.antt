@@ -1,5 +1,5 @@
 -- `charts::page::read_place` meets its contract. Assumes nothing.
-use Rattle.std.proofs.Common.{◌∙◌, to_z-of_z, rules}
+use Rattle.std.proofs.Common.{◌∙◌, to_z-of_z}
 use mir.Syntax.{w32}
 use Rattle.book.specs.Pages.{page_of}
 use Rattle.charts.proofs.page.read_place.Goals as goal

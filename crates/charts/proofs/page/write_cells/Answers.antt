@@ -1,7 +1,6 @@
 -- `charts::page::write_cells` meets its contract.
-use Rattle.std.proofs.Common.{◌≡◌, ℕ, ◌-◌, ◌≤◌, length, get_or, ℤ, pos, sym, refl, ap, ◌∙◌, arith, to_z-of_z, w32, SFits}
+use Rattle.std.proofs.Common.{◌-◌, length, get_or, pos, sym, ap, ◌∙◌, arith, to_z-of_z, w32, SFits}
 use lib.Seq.{length-sets}
-use Rattle.charts.specs.Build.{cells_written}
 use Rattle.charts.proofs.Turns.{cells-turn, cells-end}
 use Rattle.charts.proofs.page.write_cells.Goals as goal
 

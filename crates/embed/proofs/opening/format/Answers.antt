@@ -1,17 +1,14 @@
 -- `embed::opening::format` meets its contract. Assumes nothing.
-use native.Mathlib.Omega.{arith}
 use mathlib.Core.Path.{◌≡◌, sym, ◌∙◌}
 use mathlib.Core.Bool.{true, ◌&&◌}
 use lib.ListN.{length}
 use lib.Dec.{eqb}
-use borrow.Author.Tests.{not-true, not-false}
 use Rattle.book.specs.Limits.{log_length, charts_length}
 use Rattle.state.specs.World.{right_lengths}
 use Rattle.embed_model.specs.Arrays.{Arrays, arrays, world_in}
 use Rattle.embed_model.proofs.Refused.{format-refused}
-use Rattle.embed.proofs.Calling.{wrong-stored, right-stored, stored-lengths}
-use Rattle.embed.proofs.Restarting.{zero-bounded, refused-format, done-format}
-use borrow.Author.Rules.{rules}
+use Rattle.embed.proofs.Calling.{wrong-stored, right-stored}
+use Rattle.embed.proofs.Restarting.{refused-format, done-format}
 use Rattle.embed.proofs.opening.format.Goals as goal
 
 pub returns-then-not-stored_fit : goal.returns-then-not-stored_fit

@@ -4,14 +4,12 @@ use mathlib.Core.Bool.{true, ◌&&◌}
 use native.Mathlib.Omega.{arith}
 use lib.ListN.{length}
 use lib.Dec.{eqb}
-use borrow.Author.Tests.{not-true, not-false}
 use Rattle.book.specs.Limits.{log_length, charts_length}
 use Rattle.state.specs.World.{right_lengths}
 use Rattle.embed_model.specs.Arrays.{Arrays, arrays, world_in}
 use Rattle.embed_model.proofs.Refused.{open-refused}
-use Rattle.embed.proofs.Calling.{wrong-stored, right-stored, stored-lengths}
+use Rattle.embed.proofs.Calling.{wrong-stored, right-stored}
 use Rattle.embed.proofs.Restarting.{opening}
-use borrow.Author.Rules.{rules}
 use Rattle.embed.proofs.opening.open.Goals as goal
 
 pub returns-then-not-stored_fit : goal.returns-then-not-stored_fit

@@ -3,7 +3,6 @@ use mathlib.Core.Path.{◌≡◌, sym, ◌∙◌}
 use mathlib.Core.Bool.{true, ◌&&◌}
 use lib.ListN.{length}
 use lib.Dec.{eqb}
-use borrow.Author.Tests.{not-true, not-false}
 use Rattle.book.specs.Limits.{log_length, charts_length}
 use Rattle.book.specs.Calls.{Call, Typed}
 use Rattle.state.specs.Answers.{number_and_value}
@@ -12,7 +11,6 @@ use Rattle.state.specs.World.{right_lengths}
 use Rattle.embed_model.specs.Arrays.{Arrays, arrays, world_in, RamLengths}
 use Rattle.embed_model.proofs.Refused.{call-refused}
 use Rattle.embed.proofs.Calling.{wrong-stored, right-stored, stored-lengths, number_in, refused, passes, accepts, accepted-call}
-use borrow.Author.Rules.{rules}
 use Rattle.embed.proofs.run.hand_over.Goals as goal
 
 pub returns-then-not-stored_fit : goal.returns-then-not-stored_fit

@@ -3,7 +3,6 @@ use mathlib.Core.Path.{◌≡◌, ap, sym, ◌∙◌}
 use mathlib.Core.Bool.{true, ◌&&◌}
 use lib.ListN.{length}
 use lib.Dec.{eqb}
-use borrow.Author.Tests.{not-true, not-false}
 use Rattle.book.specs.Limits.{log_length, charts_length}
 use Rattle.book.specs.Calls.{Call, Typed}
 use Rattle.tables_model.specs.Layout.{entries}
@@ -13,7 +12,6 @@ use Rattle.state.specs.World.{right_lengths}
 use Rattle.embed_model.specs.Arrays.{Arrays, arrays, world_in, RamLengths}
 use Rattle.embed_model.proofs.Refused.{call-refused}
 use Rattle.embed.proofs.Calling.{wrong-stored, right-stored, stored-lengths, number_in, refused, passes, accepts, read-call}
-use borrow.Author.Rules.{rules}
 use Rattle.embed.proofs.run.read.Goals as goal
 
 pub returns-then-not-stored_fit : goal.returns-then-not-stored_fit

@@ -1,5 +1,4 @@
 use Rattle.journal.specs.Journal.{forced}
-use borrow.Author.Rules.{rules}
 use Rattle.journal.proofs.force.force.Goals as goal
 
 pub returns : goal.returns

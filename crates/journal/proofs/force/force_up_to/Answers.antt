@@ -1,7 +1,6 @@
 use native.Mathlib.Omega.{arith}
 use mathlib.Core.Path.{◌≡◌, sym}
 use Rattle.journal.specs.Journal.{journal, forced_up_to}
-use borrow.Author.Rules.{rules}
 use Rattle.journal.proofs.Shifts.{none-forced}
 use Rattle.journal.proofs.force.force_up_to.Goals as goal
 

@@ -1,10 +1,9 @@
-use Prim.Native.Nat.{ℕ, ◌+◌, ◌*◌, ◌-◌, ◌≤◌}
+use Prim.Native.Nat.{ℕ, ◌+◌, ◌*◌, ◌-◌}
 use native.Mathlib.Omega.{arith}
-use mathlib.Core.Path.{◌≡◌, refl, ap, ap₂, ◌∙◌}
-use mathlib.Core.List.{List, ◌++◌}
-use borrow.Author.Rules.{rules}
-use lib.ListN.{length, take, drop, set, get_or, replicate, length-set, length-take, length-drop}
-use Rattle.journal.proofs.Shifts.{moved, moved_more, moved_all}
+use mathlib.Core.Path.{ap, ◌∙◌}
+use mathlib.Core.List.{List}
+use lib.ListN.{set, get_or, length-set}
+use Rattle.journal.proofs.Shifts.{moved_more}
 use Rattle.journal.proofs.force.shift.Goals as goal
 
 pub loop-i-preserved : goal.loop-i-preserved

@@ -1,10 +1,7 @@
-use Prim.Native.Nat.{ℕ, ◌+◌, ◌*◌, ◌-◌, ◌≤◌}
-use native.Mathlib.Omega.{arith}
-use mathlib.Core.Path.{◌≡◌, refl, ap, ap₂, ◌∙◌}
-use mathlib.Core.List.{List, ◌++◌}
-use borrow.Author.Rules.{rules}
-use lib.ListN.{length, take, drop, set, get_or, replicate, length-set, length-take, length-drop}
-use Rattle.journal.proofs.Shifts.{moved, moved_more, moved_all}
+use Prim.Native.Nat.{◌-◌, ◌≤◌}
+use mathlib.Core.Path.{◌≡◌}
+use lib.ListN.{length}
+use Rattle.journal.proofs.Shifts.{moved}
 use Rattle.journal.proofs.force.shift.Given as goal
 
 abbrev pub invariant-loop-i : goal.invariant-loop-i

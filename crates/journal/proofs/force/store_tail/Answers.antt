@@ -1,11 +1,7 @@
-use lib.ListN.{length-take, length-drop}
 use native.Mathlib.Omega.{arith}
-use borrow.Author.Rules.{rules}
-use mathlib.Core.Path.{◌≡◌, refl, ap, ◌∙◌, sym}
-use Prim.Native.Nat.{◌+◌, ◌-◌, ◌*◌, ◌≤◌}
-use native.Mathlib.Nat.{add-zero, sub-zero}
-use lib.ListN.{length, drop}
-use Rattle.journal.specs.Force.{runs, chunks, Ran}
+use mathlib.Core.Path.{◌≡◌, ap, ◌∙◌, sym}
+use Prim.Native.Nat.{◌+◌, ◌-◌, ◌*◌}
+use Rattle.journal.specs.Force.{Ran}
 use Rattle.journal.proofs.Turns.{turn, turn-cut, turns-end}
 use Rattle.journal.proofs.force.store_tail.Goals as goal
 

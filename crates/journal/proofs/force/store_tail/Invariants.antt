@@ -1,12 +1,7 @@
-use lib.ListN.{length-take, length-drop}
-use native.Mathlib.Omega.{arith}
-use borrow.Author.Rules.{rules}
-use mathlib.Core.Path.{◌≡◌, refl, ap, ◌∙◌, sym}
+use mathlib.Core.Path.{◌≡◌}
 use Prim.Native.Nat.{◌+◌, ◌-◌, ◌*◌, ◌≤◌}
-use native.Mathlib.Nat.{add-zero, sub-zero}
 use lib.ListN.{length, drop}
-use Rattle.journal.specs.Force.{runs, chunks, Ran}
-use Rattle.journal.proofs.Turns.{turn, turn-cut, turns-end}
+use Rattle.journal.specs.Force.{runs, chunks}
 use Rattle.journal.proofs.force.store_tail.Given as goal
 
 abbrev pub invariant-loop-j : goal.invariant-loop-j

@@ -1,6 +1,5 @@
 use mathlib.Core.Path.{◌∙◌, sym}
 use Rattle.journal.specs.Journal.{paged}
-use borrow.Author.Rules.{rules}
 use Rattle.journal.proofs.pages.write_page.Goals as goal
 
 pub returns-in-Closed : goal.returns-in-Closed

@@ -3,7 +3,6 @@ use native.Mathlib.Omega.{arith}
 use borrow.Author.Tests.{lt-ltb, le-ltb}
 use Rattle.journal.specs.Journal.{journal, appended}
 use Rattle.journal.proofs.Room.{roomy, with-log}
-use borrow.Author.Rules.{rules}
 use Rattle.journal.proofs.tail.append.Goals as goal
 
 pub returns-in-Closed : goal.returns-in-Closed

@@ -1,6 +1,5 @@
 use borrow.Author.Tests.{le-leb, lt-leb}
 use Rattle.journal.specs.Journal.{with_room}
-use borrow.Author.Rules.{rules}
 use Rattle.journal.proofs.tail.make_room.Goals as goal
 
 pub returns-then-c-ge-TAIL_LIMIT : goal.returns-then-c-ge-TAIL_LIMIT

@@ -1,11 +1,10 @@
 -- `journal::writes::put_page` meets its contract. Assumes nothing.
 use native.Mathlib.Omega.{arith}
-use mathlib.Core.Path.{◌≡◌, sym, ◌∙◌, ap}
+use mathlib.Core.Path.{◌≡◌, sym, ◌∙◌}
 use mathlib.Core.List.{◌++◌, append-nil}
 use lib.ListN.{take, drop, length-drop, drop_of_length-le}
 use lib.Seq.{take-add, take_all, length-take-le}
 use Rattle.journal.proofs.Shifts.{put_both}
-use borrow.Author.Rules.{rules}
 use Rattle.journal.proofs.writes.put_page.Goals as goal
 
 pub returns : goal.returns

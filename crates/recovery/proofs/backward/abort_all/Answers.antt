@@ -1,12 +1,11 @@
 -- `recovery::backward::abort_all` meets its contract.
-use Rattle.std.proofs.Common.{◌≡◌, ◌-◌, ◌≤◌, length, get_or, sym, refl, ap, ◌∙◌, arith}
+use Rattle.std.proofs.Common.{◌-◌, get_or, sym, ap, ◌∙◌, arith}
 use Rattle.book.specs.Rows.{Row}
 use Rattle.tables_model.specs.declared.Active.{Active}
 use Rattle.tables_model.specs.Layout.{actives}
 use Rattle.tables_model.specs.Meaning.{vacant}
 use Rattle.wal.proofs.Counters.{counters, counters-written, fits-again}
-use Rattle.wal.specs.Writing.{ram, Fits, written}
-use Rattle.recovery_model.specs.Backward.{abort_all}
+use Rattle.wal.specs.Writing.{ram, written}
 use Rattle.recovery.proofs.BackwardSteps.{abort-turn, abort-end}
 use Rattle.recovery.proofs.backward.abort_all.Goals as goal
 

@@ -1,5 +1,5 @@
 -- `recovery::backward::backward` meets its contract. Assumes nothing.
-use Rattle.std.proofs.Common.{◌+◌, length, ◌∙◌, add-zero, arith, rules}
+use Rattle.std.proofs.Common.{◌+◌, length, ◌∙◌, add-zero, arith}
 use Rattle.state.specs.declared.ram.Phase.TheVariants.{Open}
 use Rattle.tables_model.specs.declared.Whom.TheVariants.{All}
 use Rattle.tables_model.specs.Layout.{actives}
@@ -16,8 +16,8 @@ abort_all-e-requires c =
       copy-long = c.requires.recovers.copy-long;
     } in
     let fallen : Counters c.take_back-d.result = let a = c.args in
-        rw (← c.take_back-d.ensures) at
-        (counters-fall_all (a.s.rows + 0) All a.s.counts.used (taking (record { phase = Open; fuse = a.fuse; stored = a.s.rows; waiting = 0 }) a.log.now a.tail.now a.copy.now a.scopes.now) (counters fits)) in
+    rw (← c.take_back-d.ensures) at
+    (counters-fall_all (a.s.rows + 0) All a.s.counts.used (taking (record { phase = Open; fuse = a.fuse; stored = a.s.rows; waiting = 0 }) a.log.now a.tail.now a.copy.now a.scopes.now) (counters fits)) in
     let k = c.take_back-d.auto in
     (fits-again fits fallen k.log k.tail k.copy, c.requires.recovers.visits-long, c.requires.recovers.range.count)
 
@@ -28,8 +28,8 @@ force-requires c =
       copy-long = c.requires.recovers.copy-long;
     } in
     let fallen : Counters c.take_back-d.result = let a = c.args in
-        rw (← c.take_back-d.ensures) at
-        (counters-fall_all (a.s.rows + 0) All a.s.counts.used (taking (record { phase = Open; fuse = a.fuse; stored = a.s.rows; waiting = 0 }) a.log.now a.tail.now a.copy.now a.scopes.now) (counters fits)) in
+    rw (← c.take_back-d.ensures) at
+    (counters-fall_all (a.s.rows + 0) All a.s.counts.used (taking (record { phase = Open; fuse = a.fuse; stored = a.s.rows; waiting = 0 }) a.log.now a.tail.now a.copy.now a.scopes.now) (counters fits)) in
     let k = c.take_back-d in
     let m = ram k.result k.new.log k.new.tail k.new.copy in
     let n = rw (← c.abort_all-e.ensures) at (counters-aborted c.args.s.counts.count (actives c.args.visits.now) m fallen) in

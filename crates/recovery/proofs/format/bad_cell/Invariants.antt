@@ -1,9 +1,8 @@
 -- `recovery::format::bad_cell` meets its contract. The loop's invariant: the cells before `c` passed, so the first that fails is the first from `c` on. Assumes nothing.
-use Rattle.std.proofs.Common.{◌≡◌, ℕ, ◌-◌, ◌≤◌, Bool, get_or, pos, sym, refl, ◌∙◌, arith, to_z-of_z, w32, SFits}
+use Rattle.std.proofs.Common.{◌≡◌, ℕ, ◌-◌, ◌≤◌, Bool, get_or, pos}
 use Rattle.book.specs.Numbers.{within}
 use Rattle.book.specs.Limits.{format_bound}
 use Rattle.book.specs.Lists.{first_failing}
-use Rattle.recovery.proofs.PageTurns.{passed, failed, all-passed}
 use Rattle.recovery.proofs.format.bad_cell.Given as goal
 
 abbrev pub invariant-loop-c : goal.invariant-loop-c

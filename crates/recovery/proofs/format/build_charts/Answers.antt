@@ -1,7 +1,7 @@
 -- `recovery::format::build_charts` meets its contract. The loop's invariant: the first `p` pages are built, the others are as they were. Assumes nothing.
-use Rattle.std.proofs.Common.{◌≡◌, ◌+◌, ◌-◌, ◌*◌, ◌≤◌, ◌∙◌, arith, length-drop, length-take}
-use Rattle.recovery.proofs.FormatPages.{page_of_cells, charts-same}
-use Rattle.recovery.proofs.Laying.{Laid, laid_none, laid_next, laid-length, laid-all}
+use Rattle.std.proofs.Common.{◌≡◌, ◌+◌, ◌-◌, ◌*◌, ◌∙◌, arith, length-drop, length-take}
+use Rattle.recovery.proofs.FormatPages.{charts-same}
+use Rattle.recovery.proofs.Laying.{laid_next, laid-length, laid-all}
 use Rattle.recovery.proofs.format.build_charts.Goals as goal
 
 pub loop-p-preserved : goal.loop-p-preserved

@@ -1,8 +1,6 @@
 -- `recovery::look::before_found` meets its contract. Assumes nothing.
-use Rattle.std.proofs.Common.{◌∙◌, rules}
-use Rattle.tables_model.specs.declared.Found.TheVariants.{At}
+use Rattle.std.proofs.Common.{◌∙◌}
 use Rattle.tables_model.specs.Entries.{scope_in}
-use Rattle.tables_model.specs.Table.{Reaches}
 use Rattle.recovery.proofs.LookUps.{before-in-log}
 use Rattle.recovery.proofs.look.before_found.Goals as goal
 

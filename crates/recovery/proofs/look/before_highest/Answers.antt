@@ -1,5 +1,4 @@
 -- `recovery::look::before_highest` meets its contract. Assumes nothing.
-use Rattle.std.proofs.Common.{◌∙◌, rules}
 use Rattle.tables.proofs.Verdicts.{reaches}
 use Rattle.recovery.proofs.look.before_highest.Goals as goal
 

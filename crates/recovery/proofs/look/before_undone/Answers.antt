@@ -1,5 +1,4 @@
 -- `recovery::look::before_undone` meets its contract. Assumes nothing.
-use Rattle.std.proofs.Common.{rules}
 use Rattle.recovery.proofs.look.before_undone.Goals as goal
 
 pub returns-in-Undo : goal.returns-in-Undo

@@ -1,5 +1,5 @@
 -- `recovery::look::named_by` meets its contract. Assumes nothing.
-use Rattle.std.proofs.Common.{◌∙◌, rules}
+use Rattle.std.proofs.Common.{◌∙◌}
 use Rattle.recovery.proofs.LookUps.{row-of-log}
 use Rattle.recovery.proofs.look.named_by.Goals as goal
 

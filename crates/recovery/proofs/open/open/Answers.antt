@@ -1,8 +1,6 @@
 -- `recovery::open::open` meets its contract. Assumes nothing.
-use Rattle.std.proofs.Common.{ap, ◌∙◌, rules}
-use Rattle.recovery_model.specs.Openings.{checked_by}
+use Rattle.std.proofs.Common.{◌∙◌}
 use Rattle.recovery.proofs.Bounds.{scanned-bounded}
-use Rattle.recovery.proofs.Settling.{opening-as}
 use Rattle.recovery.proofs.open.open.Goals as goal
 
 pub open_scanned-requires-clause-recovers : goal.open_scanned-requires-clause-recovers

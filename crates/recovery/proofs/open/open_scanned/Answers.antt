@@ -1,6 +1,6 @@
 -- `recovery::open::open_scanned` meets its contract. Assumes nothing.
-use Rattle.std.proofs.Common.{arith, rules, le-ltb, lt-ltb, eq-eqb, ne_eqb}
-use Rattle.recovery.proofs.Settling.{opening-refused, opening-as}
+use Rattle.std.proofs.Common.{arith, lt-ltb, eq-eqb, ne_eqb}
+use Rattle.recovery.proofs.Settling.{opening-refused}
 use Rattle.recovery.proofs.open.open_scanned.Goals as goal
 
 pub returns-then-bad-ne0 : goal.returns-then-bad-ne0

@@ -1,9 +1,7 @@
 -- `recovery::open::recover` meets its contract. Assumes nothing.
-use Rattle.std.proofs.Common.{sym, ◌∙◌, rules}
+use Rattle.std.proofs.Common.{◌∙◌}
 use Rattle.tables_model.specs.Rows.{index}
-use Rattle.journal.proofs.Shifts.{copied}
 use Rattle.recovery.proofs.BackwardSteps.{counters-backward}
-use Rattle.recovery.proofs.Settling.{opening-as}
 use Rattle.recovery.proofs.open.recover.Goals as goal
 
 pub backward-c-requires-clause-tail_value : goal.backward-c-requires-clause-tail_value

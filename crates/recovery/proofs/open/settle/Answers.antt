@@ -1,5 +1,5 @@
 -- `recovery::open::settle` meets its contract. Assumes nothing.
-use Rattle.std.proofs.Common.{◌∙◌, arith, rules}
+use Rattle.std.proofs.Common.{◌∙◌, arith}
 use Rattle.recovery_model.specs.Openings.{settled_opening}
 use Rattle.recovery.proofs.Settling.{opening-refused, opening-ready}
 use Rattle.recovery.proofs.open.settle.Goals as goal

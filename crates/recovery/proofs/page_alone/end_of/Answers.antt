@@ -1,7 +1,6 @@
 -- `recovery::page_alone::end_of` meets its contract. The loop's invariant: the rows before `k` have a kind, so the log ends where it ends from `k` on.
-use Rattle.std.proofs.Common.{◌≡◌, ◌-◌, ◌≤◌, not, sym, refl, ap, ◌∙◌, arith, eq-eqb, ne_eqb}
-use Rattle.book.specs.Lists.{first_failing}
-use Rattle.recovery_model.specs.PageAlone.{has_kind, end_of}
+use Rattle.std.proofs.Common.{◌-◌, not, sym, ap, ◌∙◌, arith, eq-eqb, ne_eqb}
+use Rattle.recovery_model.specs.PageAlone.{end_of}
 use Rattle.recovery.proofs.PageTurns.{passed, failed, all-passed}
 use Rattle.recovery.proofs.page_alone.end_of.Goals as goal
 

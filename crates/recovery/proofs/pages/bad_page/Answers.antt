@@ -1,8 +1,6 @@
 -- `recovery::pages::bad_page` meets its contract. The loop's invariant: the pages before `p` passed, so the first that fails is the first from `p` on. Assumes nothing.
-use Rattle.std.proofs.Common.{◌≡◌, ℕ, ◌+◌, ◌-◌, ◌*◌, ◌≤◌, Bool, sym, refl, ◌∙◌, arith, length-drop, length-take}
-use Rattle.book.specs.Pages.{page_at}
-use Rattle.book.specs.Lists.{first_failing}
-use Rattle.recovery_model.specs.Charts.{is_page_by, bad_page_by}
+use Rattle.std.proofs.Common.{◌≡◌, ◌+◌, ◌-◌, ◌*◌, sym, ◌∙◌, arith}
+use Rattle.recovery_model.specs.Charts.{bad_page_by}
 use Rattle.recovery.proofs.PageTurns.{passed, failed, all-passed}
 use Rattle.recovery.proofs.pages.bad_page.Goals as goal
 

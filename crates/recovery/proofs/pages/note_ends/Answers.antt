@@ -2,7 +2,7 @@
 use Rattle.std.proofs.Common.{◌≡◌, ℕ, zero, suc, ◌+◌, ◌-◌, ◌*◌, ◌/◌, ◌<◌, ◌≤◌, Bool, true, false, eqb, List, length, get_or, set, replicate, sym, refl, ap, ◌∙◌, not-suc-le-zero, arith, length-set, get_or-drop, get_or-set_other, get_or-take, get_or-set_same, below_more, eqb-true}
 use borrow.Author.Tests.{eqb-false}
 use Rattle.wal.specs.Looking.{row_bytes_at}
-use Rattle.recovery_model.specs.Charts.{named_pages, page_named, Ends}
+use Rattle.recovery_model.specs.Charts.{named_pages, page_named}
 use Rattle.recovery.proofs.pages.note_ends.Goals as goal
 
 -- every number of the list stays within bounds that the number set is within
@@ -27,10 +27,10 @@ loop-k-init c =
 pub loop-k-preserved : goal.loop-k-preserved
 loop-k-preserved c =
     let below : c.index-p.result / 7 < length c.loop-k.ends = let l = c.loop-k in
-        let byte = c.shared_slice_known-in-loop-k-1.given (16 * l.k + 3) in
-        let e = c.index-p.ensures in
-        let long = l.invariant.1 in
-        omega arith in
+    let byte = c.shared_slice_known-in-loop-k-1.given (16 * l.k + 3) in
+    let e = c.index-p.ensures in
+    let long = l.invariant.1 in
+    omega arith in
     let l = c.loop-k in
     let a = c.args in
     let p = c.index-p.result / 7 in

@@ -1,5 +1,5 @@
 -- `recovery::pages::page_passes` meets its contract. Assumes nothing.
-use Rattle.std.proofs.Common.{◌∙◌, rules}
+use Rattle.std.proofs.Common.{◌∙◌}
 use Rattle.recovery_model.specs.Charts.{is_page_by}
 use Rattle.recovery.proofs.pages.page_passes.Goals as goal
 

@@ -1,9 +1,8 @@
 -- `recovery::pages::redo` meets its contract. The loop's invariant: the first `p` pages are redone, the others are as they were. Assumes nothing.
-use Rattle.std.proofs.Common.{◌≡◌, ◌+◌, ◌-◌, ◌*◌, ◌≤◌, refl, ◌∙◌, arith, length-drop, length-take}
+use Rattle.std.proofs.Common.{◌-◌, ◌≤◌}
 use Rattle.book.specs.Pages.{page_at}
-use Rattle.recovery_model.specs.Charts.{redo_page, redo_charts}
-use Rattle.recovery.proofs.Laying.{Laid, laid_none, laid_next, laid-length, laid-all, behind}
-use Rattle.recovery.proofs.PageTurns.{page-ends}
+use Rattle.recovery_model.specs.Charts.{redo_page}
+use Rattle.recovery.proofs.Laying.{Laid}
 use Rattle.recovery.proofs.pages.redo.Given as goal
 
 abbrev pub invariant-loop-p : goal.invariant-loop-p

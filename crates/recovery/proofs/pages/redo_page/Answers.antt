@@ -1,5 +1,5 @@
 -- `recovery::pages::redo_page` meets its contract. Assumes nothing.
-use Rattle.std.proofs.Common.{◌∙◌, rules}
+use Rattle.std.proofs.Common.{◌∙◌}
 use Rattle.recovery_model.specs.Charts.{redo_page}
 use Rattle.recovery.proofs.pages.redo_page.Goals as goal
 

@@ -1,6 +1,5 @@
 -- `recovery::scan::first_set` meets its contract. The loop's invariant: the rows from `i` on give what all rows from `k` on give. Assumes nothing.
-use Rattle.std.proofs.Common.{◌≡◌, ◌+◌, ◌-◌, ◌*◌, sym, refl, ◌∙◌, arith, length-drop, length-take}
-use Rattle.recovery_model.specs.Scan.{first_set}
+use Rattle.std.proofs.Common.{◌≡◌, ◌+◌, ◌-◌, ◌*◌, sym, ◌∙◌, arith}
 use Rattle.recovery.proofs.ScanTurns.{blank_turn, set-turn, set-end}
 use Rattle.recovery.proofs.scan.first_set.Goals as goal
 

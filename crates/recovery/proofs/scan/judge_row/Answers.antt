@@ -1,5 +1,5 @@
 -- `recovery::scan::judge_row` meets its contract. Assumes nothing.
-use Rattle.std.proofs.Common.{◌≡◌, ◌+◌, ◌-◌, ◌*◌, sym, ◌∙◌, add-one, arith, rules}
+use Rattle.std.proofs.Common.{◌≡◌, ◌+◌, ◌-◌, ◌*◌, sym, ◌∙◌, add-one, arith}
 use Rattle.recovery_model.specs.Scan.{judge_row}
 use Rattle.recovery.proofs.scan.judge_row.Goals as goal
 

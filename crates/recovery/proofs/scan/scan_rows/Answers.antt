@@ -1,8 +1,6 @@
 -- `recovery::scan::scan_rows` meets its contract.
-use Rattle.std.proofs.Common.{◌≡◌, ◌-◌, ◌≤◌, length, sym, refl, ◌∙◌, arith, rules}
+use Rattle.std.proofs.Common.{◌-◌, sym, ◌∙◌, arith}
 use Rattle.tables_model.specs.Rows.{index}
-use Rattle.tables_model.specs.Visits.{InRange}
-use Rattle.recovery_model.specs.Scan.{scan_from}
 use Rattle.recovery.proofs.ScanTurns.{taken-turn, ends-turn, bad-turn, scan-end, judged-range}
 use Rattle.recovery.proofs.scan.scan_rows.Goals as goal
 

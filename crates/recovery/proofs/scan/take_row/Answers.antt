@@ -1,6 +1,5 @@
 -- `recovery::scan::take_row` meets its contract. Assumes nothing.
-use Rattle.std.proofs.Common.{sym, ◌∙◌, add-one, rules}
-use Rattle.rows.proofs.Meanings.{meant-coded}
+use Rattle.std.proofs.Common.{sym, ◌∙◌}
 use Rattle.tables.proofs.Verdicts.{allowed-takes}
 use Rattle.recovery.proofs.scan.take_row.Goals as goal
 

@@ -2,7 +2,6 @@
 use mathlib.Core.Path.{sym, ◌∙◌}
 use native.Mathlib.Omega.{arith}
 use Rattle.rows.proofs.ByTable.{kind-zero, kind-unknown, not-as-table, own-number}
-use borrow.Author.Rules.{rules}
 use Rattle.rows.proofs.reader.has_row_bytes.Goals as goal
 
 pub returns-then-kind-eq0 : goal.returns-then-kind-eq0

@@ -1,7 +1,6 @@
 -- `rows::reader::is_blank` meets its contract. Assumes nothing.
 use mathlib.Core.Path.{◌∙◌}
 use Rattle.rows.proofs.ByTable.{blank-by-table}
-use borrow.Author.Rules.{rules}
 use Rattle.rows.proofs.reader.is_blank.Goals as goal
 
 pub returns : goal.returns

@@ -8,7 +8,6 @@ use Rattle.rows.specs.declared.Row.{Row}
 use Rattle.rows.specs.declared.Read.TheVariants.{Valid}
 use Rattle.rows.proofs.ByTable.{not-blank}
 use Rattle.rows.proofs.Meanings.{meant-coded}
-use borrow.Author.Rules.{rules}
 use Rattle.rows.proofs.reader.read_row.Goals as goal
 
 pub returns-then-in_range : goal.returns-then-in_range

@@ -1,5 +1,5 @@
 -- `rows::table::gather_wrong` meets its contract. Assumes nothing.
-use Rattle.rows.proofs.Loops.{gathered, kept}
+use Rattle.rows.proofs.Loops.{gathered}
 use Rattle.rows.proofs.table.gather_wrong.Goals as goal
 
 pub returns-then-m-eq0 : goal.returns-then-m-eq0

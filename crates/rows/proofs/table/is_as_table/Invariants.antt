@@ -1,12 +1,9 @@
 -- `rows::table::is_as_table` meets its contract: no byte so far is wrong, and none of the rest, exactly if the whole is as the table says. Assumes nothing.
-use borrow.Author.Rules.{rules}
-use mathlib.Core.Path.{◌≡◌, refl, sym, ◌∙◌}
+use mathlib.Core.Path.{◌≡◌}
 use mathlib.Core.Bool.{◌&&◌}
 use Prim.Native.Nat.{◌≤◌, ◌-◌}
-use native.Mathlib.Omega.{arith}
 use lib.Dec.{eqb}
 use Rattle.rows.specs.Table.{as_table}
-use Rattle.rows.proofs.Loops.{tested, all_tested}
 use Rattle.rows.proofs.table.is_as_table.Given as goal
 
 abbrev pub invariant-loop-i : goal.invariant-loop-i

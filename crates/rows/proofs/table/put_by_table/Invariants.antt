@@ -1,11 +1,8 @@
 -- `rows::table::put_by_table` meets its contract: what is left of the loop gives what the whole does. Assumes nothing.
-use borrow.Author.Rules.{rules}
-use mathlib.Core.Path.{◌≡◌, refl, sym, ◌∙◌}
+use mathlib.Core.Path.{◌≡◌}
 use Prim.Native.Nat.{◌≤◌, ◌-◌}
-use native.Mathlib.Omega.{arith}
-use lib.ListN.{length, length-set}
+use lib.ListN.{length}
 use Rattle.rows.specs.Table.{fill}
-use Rattle.rows.proofs.Loops.{fill_step, fill_end}
 use Rattle.rows.proofs.table.put_by_table.Given as goal
 
 abbrev pub invariant-loop-i : goal.invariant-loop-i

@@ -1,6 +1,5 @@
 -- `rows::writer::write_row` meets its contract. Assumes nothing.
-use Rattle.rows.proofs.Written.{kind-known, written}
-use borrow.Author.Rules.{rules}
+use Rattle.rows.proofs.Written.{written}
 use Rattle.rows.proofs.writer.write_row.Goals as goal
 
 pub returns : goal.returns

@@ -14,7 +14,7 @@ pub put_decimal-a-requires : goal.put_decimal-a-requires
 put_decimal-a-requires c =
     let a = c.args in
     let all = line-length a.session a.call a.number a.value a.rows a.pages (omega arith) (omega arith) (omega (arith, c.ranges.number.fits)) c.ranges.value
-        (omega arith) (omega arith) in
+    (omega arith) (omega arith) in
     let parts = line-parts a.session a.call a.number a.value a.rows a.pages in
     omega arith
 
@@ -22,7 +22,7 @@ pub put_next-b-requires : goal.put_next-b-requires
 put_next-b-requires c =
     let a = c.args in
     let all = line-length a.session a.call a.number a.value a.rows a.pages (omega arith) (omega arith) (omega (arith, c.ranges.number.fits)) c.ranges.value
-        (omega arith) (omega arith) in
+    (omega arith) (omega arith) in
     let parts = line-parts a.session a.call a.number a.value a.rows a.pages in
     omega arith
 
@@ -30,7 +30,7 @@ pub put_next-c-requires : goal.put_next-c-requires
 put_next-c-requires c =
     let a = c.args in
     let all = line-length a.session a.call a.number a.value a.rows a.pages (omega arith) (omega arith) (omega (arith, c.ranges.number.fits)) c.ranges.value
-        (omega arith) (omega arith) in
+    (omega arith) (omega arith) in
     let parts = line-parts a.session a.call a.number a.value a.rows a.pages in
     omega arith
 
@@ -38,7 +38,7 @@ pub put_value-d-requires : goal.put_value-d-requires
 put_value-d-requires c =
     let a = c.args in
     let all = line-length a.session a.call a.number a.value a.rows a.pages (omega arith) (omega arith) (omega (arith, c.ranges.number.fits)) c.ranges.value
-        (omega arith) (omega arith) in
+    (omega arith) (omega arith) in
     let parts = line-parts a.session a.call a.number a.value a.rows a.pages in
     rw (to_z-of_z c.ranges.value) (omega arith)
 
@@ -46,7 +46,7 @@ pub put_next-e-requires : goal.put_next-e-requires
 put_next-e-requires c =
     let a = c.args in
     let all = line-length a.session a.call a.number a.value a.rows a.pages (omega arith) (omega arith) (omega (arith, c.ranges.number.fits)) c.ranges.value
-        (omega arith) (omega arith) in
+    (omega arith) (omega arith) in
     let parts = line-parts a.session a.call a.number a.value a.rows a.pages in
     let v = rw (to_z-of_z c.ranges.value) at c.put_value-d.ensures in omega arith
 
@@ -54,7 +54,7 @@ pub put_last-requires : goal.put_last-requires
 put_last-requires c =
     let a = c.args in
     let all = line-length a.session a.call a.number a.value a.rows a.pages (omega arith) (omega arith) (omega (arith, c.ranges.number.fits)) c.ranges.value
-        (omega arith) (omega arith) in
+    (omega arith) (omega arith) in
     let parts = line-parts a.session a.call a.number a.value a.rows a.pages in
     let v = rw (to_z-of_z c.ranges.value) at c.put_value-d.ensures in
     omega (arith, length-append (decimal a.pages) (newline ∷ []))
@@ -74,7 +74,7 @@ returns c =
     let four = c.put_value-d in
     let five = c.put_next-e in
     let all = line-length a.session a.call a.number a.value a.rows a.pages (omega arith) (omega arith) (omega (arith, c.ranges.number.fits)) c.ranges.value
-        (omega arith) (omega arith) in
+    (omega arith) (omega arith) in
     let parts = line-parts a.session a.call a.number a.value a.rows a.pages in
     let end = length-append (decimal a.pages) (newline ∷ []) in
     let last-two = length-append rows pages in

@@ -14,14 +14,14 @@ pub bounds-out-at : goal.bounds-out-at
 bounds-out-at c =
     let size : c.magnitude-n.result ≡ nat_abs c.args.value = c.magnitude-n.ensures ∙ ap nat_abs (to_z-of_z c.ranges.value) in
     let l : length (signed_decimal c.args.value) ≡ suc (length (decimal c.magnitude-n.result)) =
-        rw size (ap length (minus c.args.value c.ranges.value c.if-value-lt0.true)) in
+    rw size (ap length (minus c.args.value c.ranges.value c.if-value-lt0.true)) in
     omega arith
 
 pub put_decimal-requires : goal.put_decimal-requires
 put_decimal-requires c =
     let size : c.magnitude-n.result ≡ nat_abs c.args.value = c.magnitude-n.ensures ∙ ap nat_abs (to_z-of_z c.ranges.value) in
     let l : length (signed_decimal c.args.value) ≡ suc (length (decimal c.magnitude-n.result)) =
-        rw size (ap length (minus c.args.value c.ranges.value c.if-value-lt0.true)) in
+    rw size (ap length (minus c.args.value c.ranges.value c.if-value-lt0.true)) in
     simp length-set (omega arith)
 
 pub put_decimal-requires-else-value-lt0 : goal.put_decimal-requires-else-value-lt0
@@ -34,7 +34,7 @@ pub returns-then-value-lt0 : goal.returns-then-value-lt0
 returns-then-value-lt0 c =
     let size : c.magnitude-n.result ≡ nat_abs c.args.value = c.magnitude-n.ensures ∙ ap nat_abs (to_z-of_z c.ranges.value) in
     let l : length (signed_decimal c.args.value) ≡ suc (length (decimal c.magnitude-n.result)) =
-        rw size (ap length (minus c.args.value c.ranges.value c.if-value-lt0.true)) in
+    rw size (ap length (minus c.args.value c.ranges.value c.if-value-lt0.true)) in
     rw (minus c.args.value c.ranges.value c.if-value-lt0.true, ← size)
     (written-first c.args.out.now c.args.at 45 (decimal c.magnitude-n.result) (omega arith) c.put_decimal.ensures)
 

@@ -1,7 +1,5 @@
 -- `tables::entries::clear` meets its contract. The loop's invariant: the numbers passed are 0, the others are as they were. Assumes nothing.
-use Rattle.std.proofs.Common.{◌≡◌, ℕ, ◌-◌, ◌≤◌, List, ◌++◌, length, drop, set, replicate, refl, ap, ◌∙◌, append-nil, arith, length-set}
-use lib.Seq.{drop-length}
-use borrow.Author.Fill.{fill_none, fill_more}
+use Rattle.std.proofs.Common.{◌≡◌, ◌-◌, ◌≤◌, ◌++◌, length, drop, replicate}
 use Rattle.tables.proofs.entries.clear.Given as goal
 
 abbrev pub invariant-loop-i : goal.invariant-loop-i

@@ -1,6 +1,5 @@
 -- `tables::entries::entry_at` meets its contract. Assumes nothing.
 use Rattle.tables.proofs.Flat.{entries_at}
-use Rattle.std.proofs.Common.{rules}
 use Rattle.tables.proofs.entries.entry_at.Goals as goal
 
 pub returns : goal.returns

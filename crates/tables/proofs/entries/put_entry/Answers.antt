@@ -1,5 +1,5 @@
 -- `tables::entries::put_entry` meets its contract. Assumes nothing.
-use Rattle.std.proofs.Common.{◌∙◌, add-zero, arith, rules}
+use Rattle.std.proofs.Common.{add-zero, arith}
 use Rattle.tables.proofs.Flat.{stores-set}
 use Rattle.tables.proofs.entries.put_entry.Goals as goal
 

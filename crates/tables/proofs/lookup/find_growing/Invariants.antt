@@ -1,11 +1,8 @@
 -- `tables::lookup::find_growing` meets its contract. The loop's invariant: the search of all entries in use gives what the search of those left gives. Assumes nothing.
-use Rattle.std.proofs.Common.{◌≡◌, ◌+◌, ◌-◌, ◌≤◌, cond, get_or, take, sym, refl, ◌∙◌, arith}
-use Rattle.book.specs.Scopes.{unused}
-use Rattle.tables_model.specs.declared.Found.TheVariants.{At}
+use Rattle.std.proofs.Common.{◌≡◌, ◌-◌, ◌≤◌, take}
 use Rattle.tables_model.specs.Layout.{entries}
-use Rattle.tables_model.specs.Table.{find_from, find, grows}
-use Rattle.tables.proofs.Loops.{left, left_end}
-use Rattle.tables.proofs.Searches.{find-next}
+use Rattle.tables_model.specs.Table.{find_from, grows}
+use Rattle.tables.proofs.Loops.{left}
 use Rattle.tables.proofs.lookup.find_growing.Given as goal
 
 abbrev pub invariant-loop-i : goal.invariant-loop-i

@@ -1,5 +1,5 @@
 -- `tables::lookup::grows_at` meets its contract. Assumes nothing.
-use Rattle.std.proofs.Common.{◌≡◌, Bool, true, false, not, ◌&&◌, eqb, sym, refl, rules, eq-eqb, ne_eqb}
+use Rattle.std.proofs.Common.{◌≡◌, Bool, true, false, not, ◌&&◌, eqb, sym, refl, eq-eqb, ne_eqb}
 use Rattle.tables_model.specs.Layout.{entry_at}
 use Rattle.tables.proofs.Flat.{entries_at}
 use Rattle.tables.proofs.lookup.grows_at.Goals as goal

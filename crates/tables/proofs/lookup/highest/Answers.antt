@@ -1,9 +1,7 @@
 -- `tables::lookup::highest` meets its contract. The loop's invariant: the search of all entries in use gives what the search of those left gives, from the best one so far. Assumes nothing.
-use Rattle.std.proofs.Common.{◌≡◌, ◌-◌, ◌≤◌, take, sym, refl, ◌∙◌, ⊎_elim, arith, le-ltb, lt-ltb, eq-eqb, ne_eqb}
-use Rattle.tables_model.specs.declared.Found.TheVariants.{Nothing}
-use Rattle.tables_model.specs.Table.{highest_from, highest}
-use Rattle.tables_model.specs.Layout.{entries}
-use Rattle.tables.proofs.Loops.{left, left_end}
+use Rattle.std.proofs.Common.{◌-◌, sym, ◌∙◌, arith, le-ltb, lt-ltb, eq-eqb, ne_eqb}
+use Rattle.tables_model.specs.Table.{highest}
+use Rattle.tables.proofs.Loops.{left_end}
 use Rattle.tables.proofs.Searches.{found_at, highest-next}
 use Rattle.tables.proofs.lookup.highest.Goals as goal
 use Rattle.tables.proofs.lookup.highest.Goals.{then-last-x, else-last-x}
@@ -16,7 +14,7 @@ loop-i-preserved c =
     highest-next c.args.t.now c.args.used l.i c.loop-i-test.true c.requires.within c.args.w l.last (found_at l.last l.found) x c.last_by-x.ensures in (
       omega arith,
       l.invariant.1 ∙ turn ∙ elim c.if-last-x.branch [
-        then-last-x z ↦ rw (lt-ltb _ _ z.if-last-x.true, z.last-is, z.found-is, ne_eqb x 0 (λ e. omega arith))
+        | then-last-x z ↦ rw (lt-ltb _ _ z.if-last-x.true, z.last-is, z.found-is, ne_eqb x 0 (λ e. omega arith))
         | else-last-x z ↦ rw (le-ltb _ _ z.if-last-x.false, z.last-is, z.found-is)
       ],
     )

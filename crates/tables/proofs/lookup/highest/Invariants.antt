@@ -1,10 +1,10 @@
 -- `tables::lookup::highest` meets its contract. The loop's invariant: the search of all entries in use gives what the search of those left gives, from the best one so far. Assumes nothing.
-use Rattle.std.proofs.Common.{◌≡◌, ◌-◌, ◌≤◌, take, sym, refl, ◌∙◌, ⊎_elim, arith, le-ltb, lt-ltb, eq-eqb, ne_eqb}
+use Rattle.std.proofs.Common.{◌≡◌, ◌-◌, ◌≤◌, take}
 use Rattle.tables_model.specs.declared.Found.TheVariants.{Nothing}
-use Rattle.tables_model.specs.Table.{highest_from, highest}
+use Rattle.tables_model.specs.Table.{highest_from}
 use Rattle.tables_model.specs.Layout.{entries}
-use Rattle.tables.proofs.Loops.{left, left_end}
-use Rattle.tables.proofs.Searches.{found_at, highest-next}
+use Rattle.tables.proofs.Loops.{left}
+use Rattle.tables.proofs.Searches.{found_at}
 use Rattle.tables.proofs.lookup.highest.Given as goal
 
 abbrev pub invariant-loop-i : goal.invariant-loop-i

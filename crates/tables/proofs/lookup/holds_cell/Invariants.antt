@@ -1,11 +1,9 @@
 -- `tables::lookup::holds_cell` meets its contract. The loop's invariant: an entry is among all in use if it is among those left. Assumes nothing.
-use Rattle.std.proofs.Common.{◌≡◌, ◌+◌, ◌-◌, ◌≤◌, ◌||◌, get_or, take, sym, refl, ◌∙◌, arith}
-use Rattle.book.specs.Scopes.{unused}
+use Rattle.std.proofs.Common.{◌≡◌, ◌-◌, ◌≤◌, take}
 use Rattle.book.specs.Lists.{any}
 use Rattle.tables_model.specs.Layout.{entries}
-use Rattle.tables_model.specs.Table.{among, is_held, holds_cell}
-use Rattle.tables.proofs.Loops.{left, left_end}
-use Rattle.tables.proofs.Searches.{any_next}
+use Rattle.tables_model.specs.Table.{among, is_held}
+use Rattle.tables.proofs.Loops.{left}
 use Rattle.tables.proofs.lookup.holds_cell.Given as goal
 
 abbrev pub invariant-loop-i : goal.invariant-loop-i

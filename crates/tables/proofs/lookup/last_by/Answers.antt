@@ -1,6 +1,5 @@
 -- `tables::lookup::last_by` meets its contract. Assumes nothing.
 use Rattle.tables.proofs.Flat.{entries_at}
-use Rattle.std.proofs.Common.{rules}
 use Rattle.tables.proofs.lookup.last_by.Goals as goal
 
 pub returns-then-covers : goal.returns-then-covers

@@ -2,7 +2,7 @@
 use Rattle.tables_model.specs.declared.Found.TheVariants.{At}
 use Rattle.tables_model.specs.Table.{Reaches}
 use Rattle.tables.proofs.Flat.{entries_at}
-use Rattle.std.proofs.Common.{◌∙◌, ap, sym, rules}
+use Rattle.std.proofs.Common.{◌∙◌, ap, sym}
 use Rattle.book.specs.Scopes.{Scope}
 use Rattle.tables.proofs.lookup.last_found.Goals as goal
 

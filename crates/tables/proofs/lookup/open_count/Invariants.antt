@@ -1,11 +1,8 @@
 -- `tables::lookup::open_count` meets its contract. The loop's invariant: the sum so far and the counts of the entries left are all counts, and each was of 16 bits. Assumes nothing.
-use Rattle.std.proofs.Common.{◌≡◌, ◌+◌, ◌-◌, ◌*◌, ◌≤◌, get_or, take, ◌∙◌, arith, rules}
-use Rattle.book.specs.Scopes.{unused}
+use Rattle.std.proofs.Common.{◌≡◌, ◌+◌, ◌-◌, ◌*◌, ◌≤◌, take}
 use Rattle.tables_model.specs.Layout.{entries}
-use Rattle.tables_model.specs.Table.{count_all, open_count}
-use Rattle.tables.proofs.Flat.{entries_at}
-use Rattle.tables.proofs.Loops.{left, left_end}
-use Rattle.tables.proofs.Searches.{count_next}
+use Rattle.tables_model.specs.Table.{count_all}
+use Rattle.tables.proofs.Loops.{left}
 use Rattle.tables.proofs.lookup.open_count.Given as goal
 
 abbrev pub invariant-loop-i : goal.invariant-loop-i

@@ -1,5 +1,4 @@
 -- `tables::rules::grows_scope` meets its contract. Assumes nothing.
-use Rattle.std.proofs.Common.{rules}
 use Rattle.tables_model.specs.Rows.{grows_by}
 use Rattle.tables.proofs.rules.grows_scope.Goals as goal
 

@@ -1,5 +1,4 @@
 -- `tables::rules::has_room` meets its contract. Assumes nothing.
-use Rattle.std.proofs.Common.{rules}
 use Rattle.tables_model.specs.Rows.{room_by}
 use Rattle.tables.proofs.rules.has_room.Goals as goal
 

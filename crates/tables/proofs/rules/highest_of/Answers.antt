@@ -1,5 +1,4 @@
 -- `tables::rules::highest_of` meets its contract. Assumes nothing.
-use Rattle.std.proofs.Common.{rules}
 use Rattle.tables_model.specs.Rows.{highest_of}
 use Rattle.tables.proofs.Verdicts.{reaches}
 use Rattle.tables.proofs.rules.highest_of.Goals as goal

@@ -1,5 +1,4 @@
 -- `tables::rules::is_within_limits` meets its contract. Assumes nothing.
-use Rattle.std.proofs.Common.{rules}
 use Rattle.tables_model.specs.Rows.{within_limits_by}
 use Rattle.tables.proofs.rules.is_within_limits.Goals as goal
 

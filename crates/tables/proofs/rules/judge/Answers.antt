@@ -1,5 +1,4 @@
 -- `tables::rules::judge` meets its contract. Assumes nothing.
-use Rattle.std.proofs.Common.{rules}
 use Rattle.tables_model.specs.Rows.{judge_by}
 use Rattle.tables.proofs.rules.judge.Goals as goal
 

@@ -1,5 +1,5 @@
 -- `tables::rules::reserve` meets its contract. Assumes nothing.
-use Rattle.std.proofs.Common.{arith, rules}
+use Rattle.std.proofs.Common.{arith}
 use Rattle.tables_model.specs.Rows.{reserve_by}
 use Rattle.tables.proofs.rules.reserve.Goals as goal
 

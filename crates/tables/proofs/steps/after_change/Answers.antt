@@ -1,6 +1,5 @@
 -- `tables::steps::after_change` meets its contract. Assumes nothing.
 use Rattle.tables.proofs.Verdicts.{may-note}
-use Rattle.std.proofs.Common.{rules}
 use Rattle.tables.proofs.steps.after_change.Goals as goal
 
 pub note_change-used-requires : goal.note_change-used-requires

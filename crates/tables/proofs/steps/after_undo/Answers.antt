@@ -1,5 +1,5 @@
 -- `tables::steps::after_undo` meets its contract. Assumes nothing.
-use Rattle.std.proofs.Common.{sym, ◌∙◌, arith, rules}
+use Rattle.std.proofs.Common.{sym, ◌∙◌, arith}
 use Rattle.tables_model.specs.Table.{scopes_undone}
 use Rattle.tables.proofs.Searches.{highest-below}
 use Rattle.tables.proofs.steps.after_undo.Goals as goal

@@ -1,6 +1,5 @@
 -- `tables::steps::step` meets its contract. Assumes nothing.
 use Rattle.tables_model.specs.Rows.{grows_by, step_by}
-use Rattle.std.proofs.Common.{rules}
 use Rattle.tables.proofs.steps.step.Goals as goal
 
 pub after_change-requires : goal.after_change-requires

@@ -1,5 +1,5 @@
 -- `tables::updates::clear_from` meets its contract. Assumes nothing.
-use Rattle.std.proofs.Common.{◌≡◌, ℕ, ◌-◌, ◌*◌, [], length, take, drop, replicate, append-nil, arith, length-drop, drop_of_length-le, rules}
+use Rattle.std.proofs.Common.{◌≡◌, ℕ, ◌-◌, ◌*◌, [], length, take, drop, replicate, append-nil, arith, length-drop, drop_of_length-le}
 use Rattle.tables.proofs.Flat.{entries-cut}
 use Rattle.tables.proofs.updates.clear_from.Goals as goal
 

@@ -1,9 +1,9 @@
 -- `tables::updates::close_ranks` meets its contract. The loop's invariant: the entries kept, and those left that another visit holds, are all that another visit holds. Assumes nothing.
-use Rattle.std.proofs.Common.{◌≡◌, ◌-◌, ◌≤◌, length, sym, refl, ap, ◌∙◌, arith, length-take-le}
-use Rattle.tables_model.specs.Table.{held_by_others, Scopes, scopes_in}
+use Rattle.std.proofs.Common.{◌-◌, ◌≤◌, length, sym, ap, ◌∙◌, arith, length-take-le}
+use Rattle.tables_model.specs.Table.{Scopes, scopes_in}
 use Rattle.tables_model.specs.Layout.{entries}
 use Rattle.tables.proofs.Ending.{held_by_other, Move, move}
-use Rattle.tables.proofs.Loops.{ranks, ranks-end}
+use Rattle.tables.proofs.Loops.{ranks-end}
 use Rattle.tables.proofs.Flat.{entries-length}
 use Rattle.tables.proofs.updates.close_ranks.Goals as goal
 

@@ -1,5 +1,4 @@
 -- `tables::updates::end_visit` meets its contract. Assumes nothing.
-use Rattle.std.proofs.Common.{rules}
 use Rattle.tables_model.specs.Table.{scopes_ended}
 use Rattle.tables.proofs.updates.end_visit.Goals as goal
 

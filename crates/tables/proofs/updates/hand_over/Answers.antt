@@ -1,9 +1,9 @@
 -- `tables::updates::hand_over` meets its contract. The loop's invariant: the entries passed are handed on, the others are as they were. Assumes nothing.
-use Rattle.std.proofs.Common.{◌≡◌, ◌-◌, ◌<◌, ◌≤◌, length, refl, ◌∙◌, arith}
+use Rattle.std.proofs.Common.{◌≡◌, ◌-◌, ◌<◌, length, ◌∙◌, arith}
 use Rattle.book.specs.Scopes.{unused}
 use Rattle.tables_model.specs.Table.{among, handed_on, scopes_handed}
 use Rattle.tables_model.specs.Layout.{entries}
-use Rattle.tables.proofs.Loops.{mapped, mapped_next}
+use Rattle.tables.proofs.Loops.{mapped_next}
 use Rattle.tables.proofs.Flat.{entries-length}
 use Rattle.tables.proofs.updates.hand_over.Goals as goal
 

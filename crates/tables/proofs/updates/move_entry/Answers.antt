@@ -1,5 +1,5 @@
 -- `tables::updates::move_entry` meets its contract. Assumes nothing.
-use Rattle.std.proofs.Common.{add-one, rules, eq-eqb, ne_eqb}
+use Rattle.std.proofs.Common.{add-one, eq-eqb, ne_eqb}
 use lib.Seq.{set-get_or}
 use Rattle.tables_model.specs.Table.{moved_at}
 use Rattle.tables.proofs.updates.move_entry.Goals as goal

@@ -1,5 +1,5 @@
 -- `tables::updates::note_change` meets its contract. Assumes nothing.
-use Rattle.std.proofs.Common.{length, sym, ◌∙◌, add-one, arith, rules}
+use Rattle.std.proofs.Common.{length, sym, ◌∙◌, add-one, arith}
 use Rattle.tables_model.specs.Entries.{Inside}
 use Rattle.tables_model.specs.Table.{scopes_changed}
 use Rattle.tables.proofs.Searches.{find-below}
@@ -8,13 +8,13 @@ use Rattle.tables.proofs.updates.note_change.Goals as goal
 pub entry_at-e-requires : goal.entry_at-e-requires
 entry_at-e-requires c =
     let inside : Inside (length c.args.t.now) c.in-At.i = let e = sym c.find_growing-found.ensures ∙ c.in-At.is in
-        record { long = c.requires.long; below = omega (arith, c.requires.within, find-below _ _ _ _ e) } in
+    record { long = c.requires.long; below = omega (arith, c.requires.within, find-below _ _ _ _ e) } in
     inside
 
 pub put_entry-requires : goal.put_entry-requires
 put_entry-requires c =
     let inside : Inside (length c.args.t.now) c.in-At.i = let e = sym c.find_growing-found.ensures ∙ c.in-At.is in
-        record { long = c.requires.long; below = omega (arith, c.requires.within, find-below _ _ _ _ e) } in
+    record { long = c.requires.long; below = omega (arith, c.requires.within, find-below _ _ _ _ e) } in
     inside
 
 pub returns-in-At : goal.returns-in-At

@@ -1,5 +1,5 @@
 -- `tables::visits::active_at` meets its contract. Assumes nothing.
-use Rattle.std.proofs.Common.{add-zero, rules}
+use Rattle.std.proofs.Common.{add-zero}
 use Rattle.tables.proofs.Places.{actives-at}
 use Rattle.tables.proofs.visits.active_at.Goals as goal
 

@@ -1,10 +1,9 @@
 -- `tables::visits::close_ranks` meets its contract. The loop's invariant: the places kept, and those left without the visit, are all places without the visit. Assumes nothing.
-use Rattle.std.proofs.Common.{◌≡◌, ◌-◌, ◌≤◌, length, take, sym, refl, ap, ◌∙◌, arith, length-take-le}
-use Rattle.book.specs.Lists.{keep}
+use Rattle.std.proofs.Common.{◌-◌, ◌≤◌, length, sym, ap, ◌∙◌, arith, length-take-le}
 use Rattle.tables_model.specs.Visits.{Places, places_in}
 use Rattle.tables_model.specs.Layout.{actives}
 use Rattle.tables.proofs.Ending.{stays, Turn, turn}
-use Rattle.tables.proofs.Loops.{ranks, ranks-end}
+use Rattle.tables.proofs.Loops.{ranks-end}
 use Rattle.tables.proofs.Places.{actives-length}
 use Rattle.tables.proofs.visits.close_ranks.Goals as goal
 

@@ -1,5 +1,5 @@
 -- `tables::visits::is_listed` meets its contract. The loop's invariant: the visit is among all places in use if it is among those left. Assumes nothing.
-use Rattle.std.proofs.Common.{◌≡◌, ◌+◌, ◌-◌, ◌≤◌, ◌||◌, length, take, sym, refl, ◌∙◌, arith}
+use Rattle.std.proofs.Common.{◌≡◌, ◌+◌, ◌-◌, ◌≤◌, ◌||◌, length, sym, ◌∙◌}
 use Rattle.book.specs.Lists.{any}
 use Rattle.tables_model.specs.Visits.{is_listed, is_of}
 use Rattle.tables_model.specs.Layout.{actives}
@@ -12,13 +12,13 @@ pub returns-then-is_of : goal.returns-then-is_of
 unfolding is_listed
 returns-then-is_of c =
     let turn : let l = c.loop-i in
-        let p = is_of c.args.v.0 in
-        let places = actives c.args.visits.now in
-        any p (left c.args.t.count l.i places) ≡ c.is_of.result || any p (left c.args.t.count (l.i + 1) places) = let l = c.loop-i in
-        let n = c.args.t.count in
-        let places = actives c.args.visits.now in
-        let w : n ≤ length places = rw actives-length c.requires.within in
-        rw (left-next n l.i places vacant c.loop-i-test.true w, ← c.active_at-a.ensures, ← c.is_of.ensures) in
+    let p = is_of c.args.v.0 in
+    let places = actives c.args.visits.now in
+    any p (left c.args.t.count l.i places) ≡ c.is_of.result || any p (left c.args.t.count (l.i + 1) places) = let l = c.loop-i in
+    let n = c.args.t.count in
+    let places = actives c.args.visits.now in
+    let w : n ≤ length places = rw actives-length c.requires.within in
+    rw (left-next n l.i places vacant c.loop-i-test.true w, ← c.active_at-a.ensures, ← c.is_of.ensures) in
     sym (c.loop-i.invariant.1 ∙ turn ∙ rw c.if-is_of.true)
 
 pub returns : goal.returns

@@ -1,11 +1,9 @@
 -- `tables::visits::is_listed` meets its contract. The loop's invariant: the visit is among all places in use if it is among those left. Assumes nothing.
-use Rattle.std.proofs.Common.{◌≡◌, ◌+◌, ◌-◌, ◌≤◌, ◌||◌, length, take, sym, refl, ◌∙◌, arith}
+use Rattle.std.proofs.Common.{◌≡◌, ◌-◌, ◌≤◌, take}
 use Rattle.book.specs.Lists.{any}
-use Rattle.tables_model.specs.Visits.{is_listed, is_of}
+use Rattle.tables_model.specs.Visits.{is_of}
 use Rattle.tables_model.specs.Layout.{actives}
-use Rattle.tables_model.specs.Meaning.{vacant}
-use Rattle.tables.proofs.Loops.{left, left-next, left_end}
-use Rattle.tables.proofs.Places.{actives-length}
+use Rattle.tables.proofs.Loops.{left}
 use Rattle.tables.proofs.visits.is_listed.Given as goal
 
 abbrev pub invariant-loop-i : goal.invariant-loop-i

@@ -1,5 +1,5 @@
 -- `tables::visits::may_act` meets its contract. The loop's invariant: the visit is among all places in use if it was seen or is among those left, and
-use Rattle.std.proofs.Common.{◌≡◌, ◌+◌, ◌-◌, ◌≤◌, Bool, true, false, ◌&&◌, ◌||◌, ◌∷◌, length, take, refl, ◌∙◌, ⊎_elim, arith}
+use Rattle.std.proofs.Common.{◌≡◌, ◌+◌, ◌-◌, ◌≤◌, Bool, true, false, ◌&&◌, ◌||◌, ◌∷◌, length, take, refl, ◌∙◌, arith}
 use Rattle.book.specs.Lists.{any}
 use Rattle.tables_model.specs.Visits.{is_listed, is_bearing, is_of, is_bearer}
 use Rattle.tables_model.specs.Layout.{actives}
@@ -50,7 +50,7 @@ loop-i-preserved c =
     let bearing : any (is_bearer a.v.0) (take n places) ≡ (c.is_of.result && c.active_at-a.result.bears) || any (is_bearer a.v.0) (left n (l.i + 1) places) =
     l.invariant.2 ∙ rw (next, ← c.is_of.ensures) in
     elim c.if-is_of.branch [
-      then-is_of+else-a t ↦ (omega arith, listed ∙ rw (t.if-is_of.true, t.seen-is) (seen-now l.seen), bearing ∙ rw (t.if-is_of.true, t.if-a.false))
+      | then-is_of+else-a t ↦ (omega arith, listed ∙ rw (t.if-is_of.true, t.seen-is) (seen-now l.seen), bearing ∙ rw (t.if-is_of.true, t.if-a.false))
       | else-is_of t ↦ (omega arith, listed ∙ rw (t.if-is_of.false, t.seen-is), bearing ∙ rw t.if-is_of.false)
     ]
 

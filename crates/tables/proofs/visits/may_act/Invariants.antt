@@ -1,11 +1,9 @@
 -- `tables::visits::may_act` meets its contract. The loop's invariant: the visit is among all places in use if it was seen or is among those left, and
-use Rattle.std.proofs.Common.{◌≡◌, ◌+◌, ◌-◌, ◌≤◌, Bool, true, false, ◌&&◌, ◌||◌, ◌∷◌, length, take, refl, ◌∙◌, ⊎_elim, arith}
+use Rattle.std.proofs.Common.{◌≡◌, ◌-◌, ◌≤◌, ◌||◌, take}
 use Rattle.book.specs.Lists.{any}
-use Rattle.tables_model.specs.Visits.{is_listed, is_bearing, is_of, is_bearer}
+use Rattle.tables_model.specs.Visits.{is_of, is_bearer}
 use Rattle.tables_model.specs.Layout.{actives}
-use Rattle.tables_model.specs.Meaning.{vacant}
-use Rattle.tables.proofs.Loops.{left, left-next, left_end}
-use Rattle.tables.proofs.Places.{actives-length}
+use Rattle.tables.proofs.Loops.{left}
 use Rattle.tables.proofs.visits.may_act.Given as goal
 
 abbrev pub invariant-loop-i : goal.invariant-loop-i

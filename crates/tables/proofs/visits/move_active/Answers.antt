@@ -1,5 +1,5 @@
 -- `tables::visits::move_active` meets its contract. Assumes nothing.
-use Rattle.std.proofs.Common.{add-one, rules}
+use Rattle.std.proofs.Common.{add-one}
 use Rattle.tables_model.specs.Visits.{kept_at}
 use Rattle.tables.proofs.visits.move_active.Goals as goal
 

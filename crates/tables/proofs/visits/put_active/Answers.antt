@@ -1,5 +1,5 @@
 -- `tables::visits::put_active` meets its contract. Assumes nothing.
-use Rattle.std.proofs.Common.{add-zero, arith, length-set, rules}
+use Rattle.std.proofs.Common.{add-zero}
 use Rattle.tables.proofs.Places.{pair_set}
 use Rattle.tables.proofs.visits.put_active.Goals as goal
 

@@ -1,9 +1,8 @@
 -- `tables::visits::vacate_from` meets its contract. The loop's invariant: filled up from here, the places are what they are filled up from place k. Assumes nothing.
-use Rattle.std.proofs.Common.{◌≡◌, ◌-◌, ◌≤◌, length, sym, refl, ◌∙◌, arith, length-take-le}
+use Rattle.std.proofs.Common.{◌≡◌, ◌-◌, ◌≤◌, length}
 use Rattle.tables_model.specs.Layout.{actives}
 use Rattle.tables_model.specs.Meaning.{vacant}
-use Rattle.tables.proofs.Loops.{filled, filled_next, filled-end}
-use Rattle.tables.proofs.Places.{actives-length}
+use Rattle.tables.proofs.Loops.{filled}
 use Rattle.tables.proofs.visits.vacate_from.Given as goal
 
 abbrev pub invariant-loop-i : goal.invariant-loop-i

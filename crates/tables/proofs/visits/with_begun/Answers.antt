@@ -1,5 +1,5 @@
 -- `tables::visits::with_begun` meets its contract. Assumes nothing.
-use Rattle.std.proofs.Common.{add-one, rules}
+use Rattle.std.proofs.Common.{add-one}
 use Rattle.tables_model.specs.Visits.{with_begun}
 use Rattle.tables.proofs.visits.with_begun.Goals as goal
 

@@ -1,6 +1,5 @@
 -- `tables::visits::with_ended` meets its contract. Assumes nothing.
 use Rattle.tables_model.specs.Visits.{with_ended}
-use Rattle.std.proofs.Common.{rules}
 use Rattle.tables.proofs.visits.with_ended.Goals as goal
 
 pub returns : goal.returns

@@ -1,9 +1,9 @@
 -- `tables::visits::with_undo` meets its contract. The loop's invariant: the places passed are marked, the others are places they were. Assumes nothing.
-use Rattle.std.proofs.Common.{◌≡◌, ◌-◌, ◌<◌, ◌≤◌, length, refl, ◌∙◌, arith}
+use Rattle.std.proofs.Common.{◌≡◌, ◌-◌, ◌<◌, length, ◌∙◌, arith}
 use Rattle.tables_model.specs.Visits.{with_undo, marked}
 use Rattle.tables_model.specs.Layout.{actives}
 use Rattle.tables_model.specs.Meaning.{vacant}
-use Rattle.tables.proofs.Loops.{mapped, mapped_next}
+use Rattle.tables.proofs.Loops.{mapped_next}
 use Rattle.tables.proofs.Places.{actives-length}
 use Rattle.tables.proofs.visits.with_undo.Goals as goal
 

@@ -1,6 +1,5 @@
 -- `wal::look::before_last` meets its contract. Assumes nothing.
 use mathlib.Core.Path.{sym, ◌∙◌}
-use borrow.Author.Rules.{rules}
 use borrow.Author.Tests.{eq-eqb, ne_eqb}
 use Rattle.journal.specs.Journal.{journal}
 use Rattle.wal.proofs.LookUps.{in_parts}

@@ -14,7 +14,7 @@ loop-n-init c =
     let low : (a.base < c.if-first-base.lowest) × (a.first ≤ c.if-first-base.lowest) =
     elim c.if-first-base.branch [ then-first-base w ↦ omega arith | else-first-base w ↦ omega arith ] in
     elim c.if-base-rows.branch [
-      then-base-rows w ↦ (low.0, low.1, omega arith, omega arith, rw w.n-is (begins-behind _ _ _ _ _ _ a.last (omega arith)))
+      | then-base-rows w ↦ (low.0, low.1, omega arith, omega arith, rw w.n-is (begins-behind _ _ _ _ _ _ a.last (omega arith)))
       | else-base-rows w ↦ (low.0, low.1, omega arith, omega arith, rw w.n-is)
     ]
 
@@ -40,7 +40,7 @@ returns c =
     let a = c.args in
     let look = row_of_part a.b.now a.base a.rows in
     let stop : previous look a.maker.0 a.cell.0 a.first l.n ≡ 0 = elim c.if-first-base.branch [
-      then-first-base w ↦ stops-before _ _ _ _ _ _ l.n (omega arith)
+      | then-first-base w ↦ stops-before _ _ _ _ _ _ l.n (omega arith)
       | else-first-base w ↦ stops look a.maker.0 a.cell.0 a.first l.n (omega arith)
     ] in
     (sym (l.invariant.4 ∙ stop), omega arith)

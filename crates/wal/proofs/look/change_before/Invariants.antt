@@ -1,11 +1,8 @@
 -- `wal::look::change_before` meets its contract.
-use Prim.Native.Nat.{◌+◌, ◌-◌, ◌*◌, ◌≤◌, ◌<◌}
-use mathlib.Core.Path.{◌≡◌, sym, ◌∙◌}
-use mathlib.Core.Logic.{⊎_elim}
-use native.Mathlib.Omega.{arith}
+use Prim.Native.Nat.{◌+◌, ◌-◌, ◌≤◌, ◌<◌}
+use mathlib.Core.Path.{◌≡◌}
 use Rattle.tables_model.specs.Lookup.{previous}
 use Rattle.wal.specs.Looking.{row_of_part}
-use Rattle.wal.proofs.LookUps.{part-row, stops, finds, passes, begins-behind, stops-before}
 use Rattle.wal.proofs.look.change_before.Given as goal
 
 abbrev pub invariant-loop-n : goal.invariant-loop-n

@@ -1,7 +1,6 @@
 -- `wal::look::row_at` meets its contract. Assumes nothing.
 use Rattle.journal.specs.Journal.{journal}
 use Rattle.wal.proofs.LookUps.{log-here, tail-here}
-use borrow.Author.Rules.{rules}
 use Rattle.wal.proofs.look.row_at.Goals as goal
 
 pub returns-then-n-stored : goal.returns-then-n-stored

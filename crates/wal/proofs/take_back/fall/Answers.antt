@@ -1,6 +1,5 @@
 -- `wal::take_back::fall` meets its contract. Assumes nothing.
 use mathlib.Core.Path.{ap, ◌∙◌}
-use borrow.Author.Rules.{rules}
 use Rattle.rows.specs.Meaning.{meant}
 use Rattle.rows.proofs.Meanings.{meant-coded}
 use Rattle.journal.specs.Journal.{journal}

@@ -1,6 +1,5 @@
 -- `wal::take_back::next_to_fall` meets its contract. Assumes nothing.
 use Rattle.wal.proofs.Falling.{reach}
-use borrow.Author.Rules.{rules}
 use Rattle.wal.proofs.take_back.next_to_fall.Goals as goal
 
 pub returns-in-Open : goal.returns-in-Open

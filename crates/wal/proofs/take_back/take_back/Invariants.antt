@@ -1,14 +1,9 @@
 -- `wal::take_back::take_back` meets its contract. Assumes nothing.
 use Prim.Native.Nat.{◌-◌, ◌≤◌}
-use mathlib.Core.Path.{◌≡◌, sym, ◌∙◌}
-use native.Mathlib.Omega.{arith}
-use native.Mathlib.Nat.{sub-zero}
+use mathlib.Core.Path.{◌≡◌}
 use lib.ListN.{length}
 use Rattle.wal.specs.Writing.{Fits}
-use Rattle.wal.specs.TakeBack.{taking, next_to_fall, fall_all}
-use Rattle.wal.proofs.Counters.{counters, fits-again, counters-fallen}
-use Rattle.wal.proofs.Falling.{turn, turns-stop, turns-end}
-use borrow.Author.Rules.{rules}
+use Rattle.wal.specs.TakeBack.{taking, fall_all}
 use Rattle.wal.proofs.take_back.take_back.Given as goal
 
 abbrev pub invariant-loop-n : goal.invariant-loop-n

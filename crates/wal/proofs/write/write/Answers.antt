@@ -4,7 +4,6 @@ use Rattle.journal.specs.Journal.{journal}
 use Rattle.rows.specs.Meaning.{meant}
 use Rattle.wal.specs.Writing.{written}
 use Rattle.wal.proofs.Counters.{counters, counters-appended}
-use borrow.Author.Rules.{rules}
 use Rattle.wal.proofs.write.write.Goals as goal
 
 pub returns-in-Closed : goal.returns-in-Closed
