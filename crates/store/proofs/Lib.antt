@@ -1,15 +1,2 @@
-pub mod Bridge
-pub mod BridgeCells
-pub mod Callees
-pub mod Calling
-pub mod Elem
 pub mod Ends
 pub mod Fill
-pub mod Local
-pub mod Locals
-pub mod Pairing
-pub mod Plain
-pub mod Promised
-pub mod Shared
-pub mod Thin
-pub mod ThinCells

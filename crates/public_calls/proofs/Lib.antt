@@ -1,3 +1,0 @@
-pub mod Outs
-pub mod Part
-pub mod PartCells
