@@ -2,15 +2,12 @@
 use mathlib.Core.Path.{◌≡◌, sym, ◌∙◌}
 use mathlib.Core.Bool.{true}
 use lib.ListN.{length}
-use borrow.Author.Tests.{not-true, not-false}
 use Rattle.state.specs.World.{world}
 use Rattle.state.specs.Functions.{Calls}
-use Rattle.cores.proofs.Lengths.{fitting, fit, wrong-kept, right_kept}
+use Rattle.cores.proofs.Lengths.{fitting, wrong-kept, right_kept}
 use Rattle.cores.proofs.Performing.{call-wrong, called}
 use borrow.Author.Rules.{rules}
 use Rattle.cores.proofs.call.call_core.Goals as goal
-
-
 
 pub returns-then-not-lengths_fit : goal.returns-then-not-lengths_fit
 returns-then-not-lengths_fit c =

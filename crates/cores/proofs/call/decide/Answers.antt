@@ -24,9 +24,9 @@ returns-then-number_of-ne0 c =
     let given : World = let x = c.args in world x.state x.log.now x.charts.now x.copy.now x.table in
     let long : length c.args.table ≡ 64 = search rules in
     let numbered : number_and_value c.check-refusal.result ≡ refused_by (number_of given (call_of c.args.request)) = let x = c.args in
-        rw (c.control_in-c.ensures, c.counts_in-t.ensures) at c.check-refusal.ensures ∙
-        ap refused_by (right-number x.state x.log.now x.charts.now x.copy.now x.table c.visits_into.new.f c.flat_into.new.f (call_of x.request)
-        c.visits_into.ensures c.flat_into.ensures c.requires long) in
+    rw (c.control_in-c.ensures, c.counts_in-t.ensures) at c.check-refusal.ensures ∙
+    ap refused_by (right-number x.state x.log.now x.charts.now x.copy.now x.table c.visits_into.new.f c.flat_into.new.f (call_of x.request)
+    c.visits_into.ensures c.flat_into.ensures c.requires long) in
     let other : (number_and_value c.check-refusal.result).number ≢ 0 = λ z. c.if-number_of-ne0.true (c.number_of.ensures ∙ z) in
     rw c.out_with.ensures
     (when-refused given (call_of c.args.request) _ _ numbered (λ z. other (ap number numbered ∙ z)), inr (refusal-case c.check-refusal.result other))
@@ -57,14 +57,13 @@ returns c =
     let given : World = let x = c.args in world x.state x.log.now x.charts.now x.copy.now x.table in
     let long : length c.args.table ≡ 64 = search rules in
     let numbered : number_and_value c.check-refusal.result ≡ refused_by (number_of given (call_of c.args.request)) = let x = c.args in
-        rw (c.control_in-c.ensures, c.counts_in-t.ensures) at c.check-refusal.ensures ∙
-        ap refused_by (right-number x.state x.log.now x.charts.now x.copy.now x.table c.visits_into.new.f c.flat_into.new.f (call_of x.request)
-        c.visits_into.ensures c.flat_into.ensures c.requires long) in
+    rw (c.control_in-c.ensures, c.counts_in-t.ensures) at c.check-refusal.ensures ∙
+    ap refused_by (right-number x.state x.log.now x.charts.now x.copy.now x.table c.visits_into.new.f c.flat_into.new.f (call_of x.request)
+    c.visits_into.ensures c.flat_into.ensures c.requires long) in
     let x = c.args in
     let a = c.accept-o in
     let visits = c.visits_into in
-    let flat = c.flat_into in
-    (
+    let flat = c.flat_into in (
       rw c.out_after.ensures
           (rw (c.control_in-c.ensures, c.counts_in-t.ensures) at a.ensures.is ∙
           when-accepted x.state x.log.now x.charts.now x.copy.now x.table visits.new.f flat.new.f (call_of x.request) visits.ensures flat.ensures _

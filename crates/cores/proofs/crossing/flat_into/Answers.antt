@@ -1,9 +1,8 @@
 -- `cores::crossing::flat_into` meets its contract. Assumes nothing.
-use Prim.Native.Nat.{◌-◌, ◌≤◌, ◌<◌}
-use mathlib.Core.Path.{◌≡◌, refl, ◌∙◌}
-use mathlib.Core.List.{map}
+use Prim.Native.Nat.{◌-◌, ◌<◌}
+use mathlib.Core.Path.{◌≡◌, ◌∙◌}
 use native.Mathlib.Omega.{arith}
-use lib.ListN.{length, take}
+use lib.ListN.{length}
 use Rattle.book.specs.Scopes.{unused}
 use Rattle.tables_model.specs.Entries.{scope_in}
 use Rattle.tables_model.specs.Layout.{entries}

@@ -1,16 +1,10 @@
 -- `cores::crossing::flat_into` meets its contract. Assumes nothing.
-use Prim.Native.Nat.{◌-◌, ◌≤◌, ◌<◌}
-use mathlib.Core.Path.{◌≡◌, refl, ◌∙◌}
+use Prim.Native.Nat.{◌-◌, ◌≤◌}
+use mathlib.Core.Path.{◌≡◌}
 use mathlib.Core.List.{map}
-use native.Mathlib.Omega.{arith}
 use lib.ListN.{length, take}
-use Rattle.book.specs.Scopes.{unused}
 use Rattle.tables_model.specs.Entries.{scope_in}
 use Rattle.tables_model.specs.Layout.{entries}
-use Rattle.tables_model.specs.Meaning.{scope_of}
-use Rattle.tables.proofs.Flat.{entries-length}
-use Rattle.cores.proofs.Crossings.{crossed-next, crossed-all}
-use borrow.Author.Rules.{rules}
 use Rattle.cores.proofs.crossing.flat_into.Given as goal
 
 abbrev pub invariant-loop-i : goal.invariant-loop-i

@@ -1,9 +1,8 @@
 -- `cores::crossing::table_from` meets its contract. Assumes nothing.
-use Prim.Native.Nat.{◌-◌, ◌≤◌, ◌<◌}
-use mathlib.Core.Path.{◌≡◌, refl, ap}
-use mathlib.Core.List.{map}
+use Prim.Native.Nat.{◌-◌, ◌<◌}
+use mathlib.Core.Path.{ap}
 use native.Mathlib.Omega.{arith}
-use lib.ListN.{length, take, length-set}
+use lib.ListN.{length, length-set}
 use Rattle.book.specs.Scopes.{unused}
 use Rattle.tables_model.specs.Layout.{entries}
 use Rattle.tables_model.specs.Meaning.{scope_of}

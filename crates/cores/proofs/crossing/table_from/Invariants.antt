@@ -1,14 +1,10 @@
 -- `cores::crossing::table_from` meets its contract. Assumes nothing.
-use Prim.Native.Nat.{◌-◌, ◌≤◌, ◌<◌}
-use mathlib.Core.Path.{◌≡◌, refl, ap}
+use Prim.Native.Nat.{◌-◌, ◌≤◌}
+use mathlib.Core.Path.{◌≡◌}
 use mathlib.Core.List.{map}
-use native.Mathlib.Omega.{arith}
-use lib.ListN.{length, take, length-set}
-use Rattle.book.specs.Scopes.{unused}
+use lib.ListN.{length, take}
 use Rattle.tables_model.specs.Layout.{entries}
 use Rattle.tables_model.specs.Meaning.{scope_of}
-use Rattle.tables.proofs.Flat.{entries-length}
-use Rattle.cores.proofs.Crossings.{crossed-next, crossed-all}
 use Rattle.cores.proofs.crossing.table_from.Given as goal
 
 abbrev pub invariant-loop-i : goal.invariant-loop-i

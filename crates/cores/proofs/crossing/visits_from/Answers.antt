@@ -1,9 +1,9 @@
 -- `cores::crossing::visits_from` meets its contract. Assumes nothing.
-use Prim.Native.Nat.{◌-◌, ◌≤◌, ◌<◌}
-use mathlib.Core.Path.{◌≡◌, refl, ap, ◌∙◌}
-use mathlib.Core.List.{map, map-id}
+use Prim.Native.Nat.{◌-◌, ◌<◌}
+use mathlib.Core.Path.{◌∙◌}
+use mathlib.Core.List.{map-id}
 use native.Mathlib.Omega.{arith}
-use lib.ListN.{length, take, length-set}
+use lib.ListN.{length, length-set}
 use Rattle.tables_model.specs.Meaning.{vacant}
 use Rattle.tables_model.specs.Layout.{actives}
 use Rattle.tables.proofs.Places.{actives-length}

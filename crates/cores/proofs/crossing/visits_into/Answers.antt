@@ -1,9 +1,9 @@
 -- `cores::crossing::visits_into` meets its contract. Assumes nothing.
-use Prim.Native.Nat.{◌-◌, ◌≤◌, ◌<◌}
-use mathlib.Core.Path.{◌≡◌, refl, ◌∙◌}
-use mathlib.Core.List.{map, map-id}
+use Prim.Native.Nat.{◌-◌, ◌<◌}
+use mathlib.Core.Path.{◌≡◌, ◌∙◌}
+use mathlib.Core.List.{map-id}
 use native.Mathlib.Omega.{arith}
-use lib.ListN.{length, take}
+use lib.ListN.{length}
 use Rattle.tables_model.specs.Meaning.{vacant}
 use Rattle.tables_model.specs.Layout.{actives}
 use Rattle.tables.proofs.Places.{actives-length}

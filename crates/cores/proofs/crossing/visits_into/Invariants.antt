@@ -1,14 +1,9 @@
 -- `cores::crossing::visits_into` meets its contract. Assumes nothing.
-use Prim.Native.Nat.{◌-◌, ◌≤◌, ◌<◌}
-use mathlib.Core.Path.{◌≡◌, refl, ◌∙◌}
-use mathlib.Core.List.{map, map-id}
-use native.Mathlib.Omega.{arith}
+use Prim.Native.Nat.{◌-◌, ◌≤◌}
+use mathlib.Core.Path.{◌≡◌}
+use mathlib.Core.List.{map}
 use lib.ListN.{length, take}
-use Rattle.tables_model.specs.Meaning.{vacant}
 use Rattle.tables_model.specs.Layout.{actives}
-use Rattle.tables.proofs.Places.{actives-length}
-use Rattle.cores.proofs.Crossings.{crossed-next, crossed-all}
-use borrow.Author.Rules.{rules}
 use Rattle.cores.proofs.crossing.visits_into.Given as goal
 
 abbrev pub invariant-loop-i : goal.invariant-loop-i

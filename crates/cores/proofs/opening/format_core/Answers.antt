@@ -3,7 +3,6 @@ use mathlib.Core.Path.{◌≡◌, sym, ◌∙◌}
 use mathlib.Core.Logic.{◌≢◌}
 use mathlib.Core.Bool.{true}
 use lib.ListN.{length}
-use borrow.Author.Tests.{not-true, not-false}
 use Rattle.state.specs.Answers.{number_and_value}
 use Rattle.state.specs.World.{world}
 use Rattle.state.specs.Functions.{Formats}

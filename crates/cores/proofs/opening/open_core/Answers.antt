@@ -1,12 +1,11 @@
 -- `cores::opening::open_core` meets its contract. Assumes nothing.
-use mathlib.Core.Path.{◌≡◌, refl, sym, ◌∙◌}
+use mathlib.Core.Path.{◌≡◌, sym, ◌∙◌}
 use mathlib.Core.Bool.{true}
 use native.Mathlib.Omega.{arith}
 use lib.ListN.{length}
-use borrow.Author.Tests.{not-true, not-false}
 use Rattle.state.specs.World.{world}
 use Rattle.state.specs.Functions.{Opens}
-use Rattle.cores.proofs.Lengths.{fitting, fit, wrong-kept, right_kept}
+use Rattle.cores.proofs.Lengths.{fitting, wrong-kept, right_kept}
 use Rattle.cores.proofs.Openings.{open-wrong, opened}
 use borrow.Author.Rules.{rules}
 use Rattle.cores.proofs.opening.open_core.Goals as goal

@@ -1,5 +1,5 @@
 -- `store::table::load` meets its contract. Assumes nothing.
-use Prim.Native.Nat.{◌+◌, ◌<◌}
+use Prim.Native.Nat.{◌<◌}
 use native.Mathlib.Omega.{arith}
 use lib.ListN.{length, length-replicate}
 use Rattle.cores.specs.Lent.{zero_scope, blanks}
