@@ -1,9 +1,7 @@
 -- Arguments by example: which ask for a log, and which do not. They hold by computing. Assumes nothing.
-use Prim.Native.Nat.{ℕ}
 use mathlib.Core.Path.{◌≡◌, refl}
-use mathlib.Core.List.{List, [], ◌∷◌}
-use Rattle.run_lines.specs.Lines.{digits_of, decimal}
-use Rattle.costliest.specs.declared.argument.Asked.{Asked}
+use mathlib.Core.List.{[], ◌∷◌}
+use Rattle.run_lines.specs.Lines.{decimal}
 use Rattle.costliest.specs.declared.argument.Asked.TheVariants.{Nothing, Number, Wrong}
 use Rattle.costliest.specs.Argument.{asked}
 

@@ -1,9 +1,9 @@
 -- An opening of the log that `write_log` leaves, beside charts of zeros and with power for n stored writes, reports as many rows as the log has. Assumes nothing.
 use Prim.Native.Nat.{ℕ, ◌≤◌}
 use native.Mathlib.Omega.{arith}
-use mathlib.Core.Path.{◌≡◌, refl, ap, subst, ◌∙◌}
+use mathlib.Core.Path.{◌≡◌, refl, subst, ◌∙◌}
 use mathlib.Core.List.{List}
-use lib.ListN.{length, replicate}
+use lib.ListN.{replicate}
 use borrow.Author.Tests.{le-leb}
 use Rattle.book.specs.Limits.{log_length, charts_length, page_limit, cost_limit}
 use Rattle.book.specs.Rows.{Row}

@@ -14,12 +14,13 @@ ghost use Rattle.costliest.specs.Opened.{line_length, OpeningResult, Told};
 
 use cores::entries::blank;
 use cores::ram::closed_state;
-use libc::{STDERR_FILENO, STDOUT_FILENO};
 use line::{LINE_LENGTH, put_line};
 use log::{write_asked, write_log};
 use rows::limits::{CHARTS_LENGTH, COST_LIMIT, LOG_LENGTH};
 use state::answers::Result;
 use state::ram::Fuse;
+use std::env::{Env, FillError};
+use std::io::{Stderr, Stdout, Write};
 use store::bridges::open_on;
 
 // A longer argument is no number up to 2,048.
@@ -52,61 +53,66 @@ fn tell(out: &mut [u8], n: usize) -> usize
     put_line(out, n as u16, answer)
 }
 
-fn write_out(bytes: &[u8]) -> bool {
-    if io::write_all(STDOUT_FILENO, bytes) {
+fn write_out(mut stdout: Stdout, mut stderr: Stderr, bytes: &[u8]) -> bool {
+    if stdout.write_all(bytes).is_ok() {
         return true;
     }
-    io::write_all(
-        STDERR_FILENO,
-        b"costliest: standard output cannot be written\n",
-    );
+    let _ = stderr.write_all(b"costliest: standard output cannot be written\n");
     false
 }
 
-fn print_opening(n: usize) -> bool
+fn print_opening(stdout: Stdout, stderr: Stderr, n: usize) -> bool
     requires { n ≤ cost_limit }
 {
     let mut out = [0u8; LINE_LENGTH];
     let length = tell(&mut out, n);
-    write_out(&out[..length])
+    write_out(stdout, stderr, &out[..length])
 }
 
-fn print_openings() {
+fn print_openings(stdout: Stdout, stderr: Stderr) {
     let mut n: usize = 0;
     while n <= COST_LIMIT {
-        if !print_opening(n) {
+        if !print_opening(stdout, stderr, n) {
             return;
         }
         n += 1;
     }
 }
 
-fn say_what_to_ask() {
-    io::write_all(
-        STDERR_FILENO,
+fn say_what_to_ask(mut stderr: Stderr) {
+    let _ = stderr.write_all(
         b"costliest: the argument is a number of rows from 0 to 2048, in base ten, or there is none\n",
     );
 }
 
-// An argument that is empty or too long for the buffer is read as no byte, which asks for no log.
-fn print_log() {
+// Whether the program got an argument i, of which 0 is its own name.
+fn is_given(env: &impl Env, i: usize) -> bool {
     let mut text = [0u8; ARGUMENT_LENGTH];
-    let length = os::arg(1, &mut text);
-    let mut log = [0u8; LOG_LENGTH];
-    if write_asked(&mut log, &text[..length]) {
-        write_out(&log);
-    } else {
-        say_what_to_ask();
+    match env.arg(i, &mut text) {
+        Ok(_) => true,
+        Err(FillError::TooLong) => true,
+        Err(FillError::NotPresent) => false,
     }
 }
 
-fn main() {
-    let arguments = os::arg_count(); // the program's own name among them
-    if arguments <= 1 {
-        print_openings();
-    } else if arguments == 2 {
-        print_log();
+// An argument that is empty or too long for the buffer is read as no byte, which asks for no log.
+fn print_log(env: &impl Env, stdout: Stdout, stderr: Stderr) {
+    let mut text = [0u8; ARGUMENT_LENGTH];
+    let length = env.arg(1, &mut text).unwrap_or(0);
+    let mut log = [0u8; LOG_LENGTH];
+    if write_asked(&mut log, &text[..length]) {
+        write_out(stdout, stderr, &log);
     } else {
-        say_what_to_ask();
+        say_what_to_ask(stderr);
+    }
+}
+
+fn main(rt: HostRuntime) {
+    if !is_given(&rt, 1) {
+        print_openings(rt.stdout(), rt.stderr());
+    } else if !is_given(&rt, 2) {
+        print_log(&rt, rt.stdout(), rt.stderr());
+    } else {
+        say_what_to_ask(rt.stderr());
     }
 }

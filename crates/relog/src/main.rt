@@ -4,42 +4,44 @@
 
 ghost use Rattle.io.specs.Counts.{IsPrefixLen};
 
-use libc::{STDERR_FILENO, STDIN_FILENO, STDOUT_FILENO};
 use runfile::run::{INPUT_LENGTH, OUTPUT_LENGTH, Output, run};
+use std::io::{Read, Stderr, Stdin, Stdout, Write};
 
 // Reads until the buffer is full or the input ends. Gives the bytes read, none where a read fails: then they are not the whole input.
-fn read_input(buf: &mut [u8]) -> usize
+fn read_input(mut stdin: Stdin, mut stderr: Stderr, buf: &mut [u8]) -> usize
     ensures { IsPrefixLen result buf.new }
 {
     let mut done: usize = 0;
     while done < buf.len() {
-        let got = libc::read(STDIN_FILENO, &mut buf[done..]);
-        if got < 0 {
-            io::write_all(STDERR_FILENO, b"relog: standard input cannot be read\n");
-            return 0;
+        match stdin.read(&mut buf[done..]) {
+            Ok(more) => {
+                if more == 0 {
+                    return done;
+                }
+                done += more;
+            }
+            Err(_) => {
+                let _ = stderr.write_all(b"relog: standard input cannot be read\n");
+                return 0;
+            }
         }
-        let more = io::count(got, &buf[done..]);
-        if more == 0 {
-            return done;
-        }
-        done += more;
     }
     done
 }
 
-fn write_lines(lines: &[u8]) {
-    if !io::write_all(STDOUT_FILENO, lines) {
-        io::write_all(STDERR_FILENO, b"relog: standard output cannot be written\n");
+fn write_lines(mut stdout: Stdout, mut stderr: Stderr, lines: &[u8]) {
+    if stdout.write_all(lines).is_err() {
+        let _ = stderr.write_all(b"relog: standard output cannot be written\n");
     }
 }
 
-fn main() {
+fn main(rt: HostRuntime) {
     let mut input = [0u8; INPUT_LENGTH];
-    let length = read_input(&mut input);
+    let length = read_input(rt.stdin(), rt.stderr(), &mut input);
     let mut out = [0u8; OUTPUT_LENGTH];
     let ran = run(&input[..length], &mut out);
     match ran {
-        Output::Lines(n) => write_lines(&out[..n]),
+        Output::Lines(n) => write_lines(rt.stdout(), rt.stderr(), &out[..n]),
         Output::OutputTooShort => {}
     }
 }

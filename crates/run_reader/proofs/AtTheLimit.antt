@@ -6,7 +6,6 @@ use mathlib.Core.Bool.{true, false, ◌&&◌}
 use mathlib.Core.List.{List, [], ◌∷◌, ◌++◌, map}
 use lib.ListN.{length, get_or, drop, replicate}
 use lib.Seq.{get_or-drop, drop-drop}
-use lib.Dec.{leb}
 use Rattle.book.specs.Lists.{join}
 use Rattle.book.specs.Numbers.{le}
 use Rattle.state.specs.World.{no_fuse}

@@ -1,11 +1,9 @@
 -- What `put_line` leaves: the parts of the line fit together, and each goes after those before it.
 use mathlib.Core.List.{◌∷◌, ◌++◌, []}
-use Prim.Native.Nat.{suc, ◌+◌, ◌≤◌}
 use native.Mathlib.Omega.{arith}
-use lib.ListN.{length, length-append}
+use lib.ListN.{length-append}
 use mir.Facts.{to_z-of_z}
 use Rattle.run_lines.specs.Lines.{decimal, signed_decimal, space, newline, line}
-use Rattle.run_lines.specs.Output.{line_length}
 use Rattle.run_lines.proofs.Decimals.{line-parts, line-length}
 use Rattle.run_lines.proofs.Writings.{written_after}
 use Rattle.run_lines.proofs.line.put_line.Goals as goal

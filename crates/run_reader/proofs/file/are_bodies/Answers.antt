@@ -1,10 +1,7 @@
 -- `run_reader::file::are_bodies` meets its contract: what is left of the loop gives what the whole does. Assumes nothing.
-use mathlib.Core.Path.{◌≡◌, sym, ◌∙◌}
-use Prim.Native.Nat.{◌-◌, ◌≤◌}
+use mathlib.Core.Path.{sym, ◌∙◌}
 use native.Mathlib.Omega.{arith}
-use lib.ListN.{length}
-use Rattle.run_reader.specs.File.{session_entry_at, are_bodies}
-use Rattle.run_reader.proofs.Bodies.{gap, beyond, other, body, bodies-end}
+use Rattle.run_reader.proofs.Bodies.{other, body}
 use Rattle.run_reader.proofs.file.are_bodies.Goals as goal
 
 pub loop-i-preserved : goal.loop-i-preserved

@@ -1,10 +1,8 @@
 -- `run_reader::file::are_calls` meets its contract: what is left of the loop gives what the whole does. Assumes nothing.
-use mathlib.Core.Path.{◌≡◌, refl, sym, ◌∙◌}
+use mathlib.Core.Path.{◌≡◌}
 use Prim.Native.Nat.{◌+◌, ◌*◌, ◌≤◌}
-use native.Mathlib.Omega.{arith}
 use lib.ListN.{length}
 use Rattle.run_reader.specs.File.{call_length, are_calls}
-use Rattle.run_reader.proofs.Bodies.{calls-step, calls-end}
 use Rattle.run_reader.proofs.file.are_calls.Given as goal
 
 abbrev pub invariant-loop-left : goal.invariant-loop-left

@@ -1,7 +1,6 @@
 -- `run_reader::file::is_call` meets its contract. Assumes nothing.
 use mathlib.Core.Logic.{inl, inr}
 use native.Mathlib.Omega.{arith}
-use borrow.Author.Rules.{rules}
 use Rattle.run_reader.proofs.CallBytes.{none-used, changes, hands-over, ends, cell-used, hands-over-all, no_code}
 use Rattle.run_reader.proofs.file.is_call.Goals as goal
 

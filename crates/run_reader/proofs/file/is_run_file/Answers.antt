@@ -1,7 +1,6 @@
 -- `run_reader::file::is_run_file` meets its contract. Assumes nothing.
 use mathlib.Core.Path.{sym, ◌∙◌}
 use native.Mathlib.Omega.{arith}
-use borrow.Author.Rules.{rules}
 use Rattle.book.proofs.Lists.{is_false}
 use Rattle.run_reader.proofs.RunFiles.{run-file, by-bodies}
 use Rattle.run_reader.proofs.file.is_run_file.Goals as goal
