@@ -57,6 +57,7 @@ pub mod AnyCharts
 pub mod OpenBytes
 pub mod ReopenedBytes
 pub mod OpeningCost
+pub mod BytesCost
 -- cases
 pub mod WorkedExamples
 pub mod OneVisit

@@ -9,18 +9,16 @@ use mathlib.Core.List.Memᴰ
 use mathlib.Core.List.{List, [], ◌∷◌, ◌++◌}
 use lib.ListN.{length, length-append}
 use lib.IntN.{pos}
-use lib.Dec.{eqb, ltb}
+use lib.Dec.{eqb}
 use borrow.Author.Tests.{eqb-true, ne_eqb}
 use Rattle.book.specs.Lists.{keep, foldl}
-use Rattle.book.specs.Limits.{row_limit, page_limit, cost_limit}
+use Rattle.book.specs.Limits.{row_limit, cost_limit}
 use Rattle.book.specs.Rows.{Row, begin, change, hand_over, undo, commit, abort, hand_over_all}
 use Rattle.book.specs.Ledger.{Ledger, empty, only, every, after, ledger}
 use Rattle.book.specs.Rules.{is_active, is_undone, is_open_change, open_changes, reserve, free, lawful, within_limits, allowed, all_allowed, allowed_log}
 use Rattle.book.specs.Power.{Book, Fuse, none, left, PowerHolds}
 use Rattle.book.specs.Book.{closing, Answer, reopened, reopen}
 use Rattle.book.specs.Writes.{no_writes, opening_writes}
-use Rattle.book.specs.LogBytes.{log_bytes}
-use Rattle.book.specs.Opening.{rejected, recovered, bad_page, open_bytes}
 use Rattle.book.specs.OpeningCost.{is_begin_or_change, BeginsAndChanges, Cost}
 use Rattle.book.proofs.Lists.{and_l, and_r, and_i, not-or-r, here, there, in-cons, keep_same, length-keep, length_without}
 use Rattle.book.proofs.Invariant.{Inv, fresh}
@@ -28,7 +26,6 @@ use Rattle.book.proofs.InvariantKept.{handed-open, ends-less, inv-after, inv-emp
 use Rattle.book.proofs.Steps.{extends-open}
 use Rattle.book.proofs.Sound.{ended-book}
 use Rattle.book.proofs.Openings.{closing-long, ended-open, ended-done, reopened-stored}
-use Rattle.book.proofs.LogBytes.{log-good}
 
 -- ── The reserve, row by row ───────────────────────────────────────────────────────────────────────────────────────────
 
@@ -176,7 +173,7 @@ reopen-cost f rs al =
       reports = λ z. let s = stores-all f rs z in s.1 ∙ ap pos (sym s.0);
     }
 
--- ── An opening of the bytes ───────────────────────────────────────────────────────────────────────────────────────────
+-- ── A refused opening ─────────────────────────────────────────────────────────────────────────────────────────────────
 
 -- a refused opening writes nothing
 pub refused-cost : (rs : List Row) (a : Answer) → a.number ≢ 0 → Cost rs a no_writes
@@ -193,13 +190,3 @@ refused-cost rs a fails = record {
     no_rows : (rs : List Row) → 0 ≡ length rs → BeginsAndChanges rs
     no_rows [] e = λ r m. absurd (Memᴰ.not-nil m)
     no_rows (r ∷ rs) e = absurd (omega arith)
-
--- of the bytes of an allowed log, whatever the charts are
-pub bytes-cost : (f : Fuse) (rs : List Row) (charts : List ℕ) → allowed_log rs ≡ true
-    → Cost rs (open_bytes f (log_bytes rs) charts).answer (open_bytes f (log_bytes rs) charts).writes
-unfolding open_bytes
-bytes-cost f rs charts al = rw (log-good rs al (few-rows rs al)) (go (bad_page rs charts) (ltb (bad_page rs charts) page_limit))
-  where
-    go : (p : ℕ) (t : Bool) → let o = cond t (rejected 4 p (log_bytes rs)) (recovered rs charts (reopen f rs)) in Cost rs o.answer o.writes
-    go p true = refused-cost rs _ (λ z. omega arith)
-    go p false = reopen-cost f rs al

@@ -20,7 +20,8 @@ use Rattle.book.specs.OpeningCost.{Cost, costliest}
 use Rattle.book.proofs.Openings.{ended-done}
 use Rattle.book.proofs.Force.{reopened-holds}
 use Rattle.book.proofs.ReopenedBytes.{open-passed}
-use Rattle.book.proofs.OpeningCost.{bytes-cost, refused-cost, holds-fewer, names-few, reaching-few}
+use Rattle.book.proofs.OpeningCost.{refused-cost, holds-fewer, names-few, reaching-few}
+use Rattle.book.proofs.BytesCost.{bytes-cost}
 use Rattle.book.proofs.CostliestLogs.{costliest-log}
 use Rattle.state.specs.World.{World, right_lengths, LogIs, allowance}
 use Rattle.state.specs.CallContracts.{Answered, OpenPost, answered_by}
