@@ -2,8 +2,8 @@
 # Writes target/unit/libembed-thumbv6m.a and target/unit/include/chart_store.h: the functions for C on a Cortex-M0 (ARMv6-M, AAPCS).
 #
 # They are compiled from the module that the proved archive for x86-64 was compiled from: with the kit's own words for clang it gives that archive byte for byte. Nothing in it is changed but the
-# three lines that name x86-64, and check_ir.py refuses it where its meaning could depend on the size of a pointer. The archive is outside the proof all the same: besides what is trusted for
-# x86-64, trusted are this change of target, check_ir.py and LLVM's back end for ARM.
+# three lines that name x86-64, and the two that take addresses for a comparison, and check_ir.py refuses it where its meaning could depend on the size of a pointer. The archive is outside the proof
+# all the same: besides what is trusted for x86-64, trusted are this change of target, check_ir.py and LLVM's back end for ARM.
 #
 # `rt lib` proves the crate over what was proved before; from nothing that takes some minutes. The variable OPT has the level of optimisation; -O3 is that of the proved archive.
 set -euo pipefail
@@ -101,6 +101,9 @@ change 'target datalayout = "e-m:e-p270:32:32-p271:32:32-p272:64:64-i64:64-i128:
     'target datalayout = "e-m:e-p:32:32-Fi8-i64:64-v128:64:128-a:0:32-n32-S64"'
 change 'target triple = "x86_64-unknown-linux-gnu"' 'target triple = "thumbv6m-unknown-none-eabi"'
 change '"probe-stack"="inline-asm" "stack-probe-size"="3072" "target-cpu"="x86-64"' '"target-cpu"="cortex-m0"'
+# An address has 32 bits there: `ptrtoint` puts zeros above it. (Both lines are of the one function that compares pointers, whose text check_ir.py has.)
+change '%r8 = ptrtoaddr ptr %a1 to i64' '%r8 = ptrtoint ptr %a1 to i64'
+change '%r9 = ptrtoaddr ptr %a0 to i64' '%r9 = ptrtoint ptr %a0 to i64'
 compile --target=x86_64-unknown-linux-gnu --target=thumbv6m-none-eabi -march=x86-64 -mcpu=cortex-m0 -fPIC '' -O3 "${OPT:--O3}" module.bc thumbv6m.ll module.o thumbv6m.o
 
 # The functions are those of the proved archive, there is no variable, and nothing is needed but functions of the ARM run-time ABI for copies, fills and arithmetic of 64 bits.

@@ -14,8 +14,8 @@ Why the rules below are enough
         indirect call (`form`, `outside`, `head`, `origin`), and no pointer is passed for a number or the other way round (`call`). A pointer is given back only
         as the first of a pair with a number of 64 bits, which in memory begins 8 bytes behind it on both machines;
       - one function compares pointers, COPY_BITS, which copies n numbers from one address to another: it asks whether the second lies less than n bytes above
-        the first. In one object the distance is the same in both runs; in two objects it never does, since the n bytes from the first on are of one. The function
-        has to have the text that stands here, and where it copies no pointer may lie (`index`);
+        the first. In one object the distance is the same in both runs, addresses of 4 bytes taken with zeros above; in two objects it never does, since the n bytes
+        from the first on are of one. The function has to have the text that stands here, and where it copies no pointer may lie (`index`);
       - no function of the module has the name of one that the back end calls by itself, as `__aeabi_memmove` (`head`);
       - each byte of memory is used in one way, as a number's or as byte k of a pointer, whichever path leads to it (`bytes`). So no number is read from a
         pointer or from the 4 bytes behind it, and no pointer from a number. A copy goes byte by byte, has a length in numbers, and keeps that;
