@@ -1,4 +1,4 @@
--- A take_back undo by undo: the next undo row is allowed, and then the rest is left to undo.
+-- A take-back undo by undo: the next undo row is allowed, and then the rest is left to undo.
 use Prim.Native.Nat.{ℕ}
 use native.Mathlib.Omega.{arith}
 use mathlib.Core.Path.{◌≡◌, refl, ap, sym, ◌∙◌, subst}

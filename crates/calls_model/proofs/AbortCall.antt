@@ -48,7 +48,7 @@ use Rattle.wal.proofs.ChangesFall.{TakingStands, changes-fall}
 use Rattle.calls_model.specs.Acts.{acted}
 use Rattle.calls_model.proofs.Cores.{ram_of, core_for, ram-stands, Reaches, reaches}
 
--- the active visits after a take_back of one visit: the others, and none of them bears an undo row of it
+-- the active visits after a take-back of one visit: the others, and none of them bears an undo row of it
 ended-tables : (l : Ledger) (v : ℕ) → Inv l → with_ended (tables_of l) v (tables_of (taken_back (just v) l)).used ≡ tables_of (taken_back (just v) l)
 ended-tables l v i =
     let t = take_back_lem (just v) l i in

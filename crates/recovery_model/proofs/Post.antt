@@ -1,4 +1,4 @@
--- An opening does what its contract says, whatever it is handed: what specs/Openings has it compute is the contract's equation (`opens_by`).
+-- An opening does what its contract says, whatever it is handed: what specs/Openings has it compute is the contract's equation (`opens_by_lem`).
 use Prim.Native.Nat.{ℕ, ◌≤◌}
 use native.Mathlib.Omega.{arith}
 use mathlib.Core.Path.{◌≡◌, refl, ap, ap₂, sym, ◌∙◌, subst}

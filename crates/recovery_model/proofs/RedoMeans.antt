@@ -69,8 +69,8 @@ abbrev later : Page → ℕ → List Row → ℕ → Page
 later g p more n = record { mark = mark_after g.mark n (last_on p more); cell = λ j. g.cell j +ℤ sum_of (7 * p + j) more }
 
 module _ (log : List ℕ) (rs : List Row) (reads : (k : ℕ) → k < length rs → row_of (row_bytes_at log k) ≡ get_or rs k (Row.begin 0)) (p : ℕ) where
-  row_at : (done more : List Row) (r : Row) → rs ≡ done ++ (r ∷ more) → row_of (row_bytes_at log (length done)) ≡ r
-  row_at done more r e =
+  row_at_lem : (done more : List Row) (r : Row) → rs ≡ done ++ (r ∷ more) → row_of (row_bytes_at log (length done)) ≡ r
+  row_at_lem done more r e =
       let n = ap length e in let m = length-append done (r ∷ more) in
       reads (length done) (omega arith) ∙ ap (λ (l : List Row). get_or l (length done) (Row.begin 0)) e ∙ get_or-append_seam done r more (Row.begin 0)
 
@@ -81,7 +81,7 @@ module _ (log : List ℕ) (rs : List Row) (reads : (k : ℕ) → k < length rs �
   redo-rows x y (r ∷ more) done g e =
       let n = suc (length done) in
       let next = moved_pages (λ q. g) (effect r) n p in
-      ap (λ (row : Row). redo_from (length more) n log p (page_redone p (effect row) n (bytes_with x y g))) (row_at done more r e) ∙
+      ap (λ (row : Row). redo_from (length more) n log p (page_redone p (effect row) n (bytes_with x y g))) (row_at_lem done more r e) ∙
       ap (redo_from (length more) n log p) (effect-redone x y p g (effect r) n) ∙
       ap (λ (k : ℕ). redo_from (length more) k log p (bytes_with x y next)) count ∙
       redo-rows x y more (done ++ (r ∷ [])) next (e ∙ sym (append_assoc done (r ∷ []) more)) ∙

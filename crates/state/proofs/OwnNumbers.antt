@@ -1,4 +1,4 @@
--- The numbers of a call's own row of 01's table (specs/Contracts). 5 is none of them, so a 5 says that the store was closed or that the power failed.
+-- The numbers of a call's own row of 01's table (specs/CallContracts). 5 is none of them, so a 5 says that the store was closed or that the power failed.
 use Prim.Native.Nat.{ℕ}
 use mathlib.Core.Path.{◌≡◌, refl, ap, sym, ◌∙◌}
 use mathlib.Core.Bool.{Bool, true, false, cond, not, ◌||◌}

@@ -1,4 +1,4 @@
--- The contracts of the public functions: what each gives back and leaves is as its relation has it (specs/Contracts), and its answer has the case of its call.
+-- The contracts of the public functions: what each gives back and leaves is as its relation has it (specs/CallContracts), and its answer has the case of its call.
 use Rattle.std.specs.Prelude.{List, ℤ}
 use Rattle.book.specs.Calls.{returns}
 use Rattle.state.specs.declared.ram.Fuse.{Fuse}

@@ -1,4 +1,4 @@
--- Each number that `numbers` lists (specs/Contracts) is answered in some sessions, but for 6, which is answered in none; `CallPost` says that a call answers
+-- Each number that `numbers` lists (specs/CallContracts) is answered in some sessions, but for 6, which is answered in none; `CallPost` says that a call answers
 -- with no other.
 use Rattle.std.specs.Prelude.{ℕ, Bool, true, ◌≡◌, ◌≢◌, List, ◌∷◌}
 use Rattle.book.specs.Lists.{member}

@@ -1,4 +1,4 @@
--- The tables after an allowed row are those of the ledger after it (`step_by`).
+-- The tables after an allowed row are those of the ledger after it (`step_by_lem`).
 use Prim.Native.Nat.{ℕ, suc, ◌-◌}
 use native.Mathlib.Omega.{arith}
 use mathlib.Core.Path.{◌≡◌, ap, ap₂, sym, ◌∙◌}
