@@ -5,6 +5,7 @@ pub mod FormattedStores
 pub mod FormatAndOpen
 pub mod OpenedStores
 pub mod OpenedCounts
+pub mod ReadyOpening
 pub mod OpeningCost
 pub mod Kept
 pub mod Ready

@@ -12,21 +12,18 @@ use Rattle.book.specs.Rows.{Row}
 use Rattle.book.specs.Ledger.{ledger}
 use Rattle.book.specs.Rules.{allowed_log}
 use Rattle.book.specs.Power.{Fuse}
-use Rattle.book.specs.Book.{Answer, answer, done, closing, reopened, reopen}
+use Rattle.book.specs.Book.{Answer, answer, done, closing}
 use Rattle.book.specs.Writes.{Writes}
 use Rattle.book.specs.LogBytes.{log_bytes}
-use Rattle.book.specs.Opening.{Opened, open_bytes}
 use Rattle.book.specs.OpeningCost.{Cost, costliest}
-use Rattle.book.proofs.Openings.{ended-done}
-use Rattle.book.proofs.Force.{reopened-holds}
-use Rattle.book.proofs.ReopenedBytes.{open-passed}
-use Rattle.book.proofs.OpeningCost.{refused-cost, holds-fewer, names-few, reaching-few}
+use Rattle.book.proofs.OpeningCost.{refused-cost, names-few, reaching-few}
 use Rattle.book.proofs.BytesCost.{bytes-cost}
 use Rattle.book.proofs.CostliestLogs.{costliest-log}
 use Rattle.state.specs.World.{World, right_lengths, LogIs, allowance}
 use Rattle.state.specs.CallContracts.{Answered, OpenPost, answered_by}
 use Rattle.state.specs.OpeningCost.{Powered, CostOfOpening, Reported, CostliestOpening, CostOfOpen}
-use Rattle.state.proofs.OpenedStores.{opens-bytes, opens-refused}
+use Rattle.state.proofs.OpenedStores.{opens-refused}
+use Rattle.state.proofs.ReadyOpening.{by_bytes, ready}
 
 -- each of the two bounds is enough
 either : (rs : List Row) → allowed_log rs ≡ true → (m : ℕ) → (length rs ≤ m) ⊎ (row_limit - length rs ≤ m) → length (closing (ledger rs)) ≤ m
@@ -34,35 +31,19 @@ either rs al m (inl h) = let k = (names-few rs al).0 in omega arith
 either rs al m (inr h) = let k = (names-few rs al).1 in omega arith
 
 module _ (f : Fuse) (given : World) (rs : List Row) (x : Answered) (log : LogIs given rs) (post : OpenPost f given x) where
-  -- what it comes to where the lent buffers have their lengths
-  by_bytes : right_lengths given ≡ true
-      → (x.answer ≡ (open_bytes f (log_bytes rs) given.charts).answer) × (x.writes ≡ (open_bytes f (log_bytes rs) given.charts).writes)
-  by_bytes e =
-      let is = post.is ∙ opens-bytes f given e in
-      let at = ap (λ (bs : List ℕ). open_bytes f bs given.charts) log.1 in
-      (ap (λ (r : Answered). r.answer) is ∙ ap (λ (o : Opened). o.answer) at, ap (λ (r : Answered). r.writes) is ∙ ap (λ (o : Opened). o.writes) at)
-
   cost : Cost rs x.answer x.writes
   cost = go (right_lengths given) refl
     where
       go : (t : Bool) → right_lengths given ≡ t → Cost rs x.answer x.writes
-      go true e = let b = by_bytes e in rw (b.0, b.1) (bytes-cost f rs given.charts log.0)
+      go true e = let b = by_bytes f given rs x log post e in rw (b.0, b.1) (bytes-cost f rs given.charts log.0)
       go false e = rw (post.is, opens-refused f given e) (refused-cost rs _ (λ z. omega arith))
-
-  ready : (n : ℕ) → length (closing (ledger rs)) ≤ n → Powered f given rs n → x.answer.number ≡ 0
-  unfolding reopen
-  ready n few p =
-      let holds = holds-fewer f (length (closing (ledger rs))) n few p.power in
-      ap (λ (a : Answer). a.number)
-      ((by_bytes p.lengths).0 ∙ ap (λ (o : Opened). o.answer) (open-passed rs given.charts log.0 p.pages f) ∙
-      ended-done _ (reopened f rs) (reopened-holds f rs holds))
 
   pub opening-cost : CostOfOpening f given rs x
   opening-cost = record {
     cost = cost;
-    ready = λ m few p. ready m (either rs log.0 m few) p;
-    ready-any = λ p. ready cost_limit (names-few rs log.0).2 p;
-    reaches = λ p. cost.reaches (ready (length rs) (names-few rs log.0).0 p);
+    ready = λ m few p. ready f given rs x log post m (either rs log.0 m few) p;
+    ready-any = λ p. ready f given rs x log post cost_limit (names-few rs log.0).2 p;
+    reaches = λ p. cost.reaches (ready f given rs x log post (length rs) (names-few rs log.0).0 p);
   }
 
 -- an answer and counts by their parts
