@@ -1,5 +1,5 @@
 // The public calls with the scope table by value: state and table go over into the arrays that a call works on in place, and back. What goes through the
-// lent table, and needs a walk by hand, is in crate `store`.
+// lent table is in crate `store`.
 #![tactic(auto)]
 
 pub mod accept; // a request that no check refuses

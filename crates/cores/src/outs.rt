@@ -1,4 +1,4 @@
-// What the cores give back: the result, and the scope table. A walk by hand goes into no field, so the struct is put together and taken apart by calls.
+// What the cores give back: the result, and the scope table. The struct is put together and taken apart by calls.
 ghost use Rattle.std.specs.Prelude.{◌≡◌, map, length};
 ghost use Rattle.tables_model.specs.Layout.{entries};
 ghost use Rattle.tables_model.specs.Meaning.{scope_of};

@@ -1,4 +1,4 @@
-// The public calls with the scope table by value, in and out: whoever calls these needs no walk. The table is lent from a local.
+// The public calls with the scope table by value, in and out. The table is lent from a local.
 ghost use Rattle.state.specs.CallContracts.{returned};
 ghost use Rattle.state.specs.Functions.{Formats, Opens, Calls};
 ghost use Rattle.state.specs.World.{world};

@@ -1,5 +1,4 @@
-// The public calls: a store is formatted, opened, and then asked. They have the same text but for names and the last parameter: one proof serves those
-// whose last parameter is plain data, another the one to which cells are lent (`proofs/Thin`, `proofs/ThinCells`).
+// The public calls: a store is formatted, opened, and then asked. They have the same text but for names and the last parameter.
 ghost use Rattle.state.specs.CallContracts.{returned};
 ghost use Rattle.state.specs.Functions.{Formats, Opens, Calls};
 ghost use Rattle.state.specs.World.{world};
