@@ -12,7 +12,7 @@ Why the rules below are enough
     bytes behind it are not used; only a place made by `alloca ptr` becomes smaller. The two runs take the same steps if
       - a pointer is made, moved and used only by forms in which its size does not show: there is no conversion, comparison (but with null) or choice of pointers, no global, no
         indirect call (`form`, `outside`, `head`, `origin`), and no pointer is passed for a number or the other way round (`call`). A pointer is given back only
-        as the first of a pair with a number of 64 bits, which in memory begins 8 bytes behind it on both machines;
+        as the first of a pair with a number of 64 bits, which in memory begins 8 bytes behind it on both machines, as the second of two numbers lies where it lay;
       - one function compares pointers, COPY_BITS, which copies n numbers from one address to another: it asks whether the second lies less than n bytes above
         the first. In one object the distance is the same in both runs, addresses of 4 bytes taken with zeros above; in two objects it never does, since the n bytes
         from the first on are of one. The function has to have the text that stands here, and where it copies no pointer may lie (`index`);
@@ -101,8 +101,8 @@ OUTSIDE = re.compile(
     re.X,
 )
 
-PAIR = r'{ ptr, i64 }'
-HEAD = re.compile(rf'define (internal )?(?:(void)|noundef (?:(zeroext) )?({NUMBER}|{PAIR})) ({FUNCTION})\((.*)\) #0 {{')
+PAIR = r'{ (?:ptr, i64|(?:i8|i16|i32|i64), (?:i8|i16|i32|i64)) }'
+HEAD = re.compile(rf'define (internal )?(?:(void)|(?:noundef )?(?:(zeroext) )?({NUMBER}|{PAIR})) ({FUNCTION})\((.*)\) #0 {{')
 PARAMETER = re.compile(rf'(ptr(?= noundef)|{NUMBER}) (?:noundef )?(?:(zeroext) )?({REGISTER})')
 
 # Forms in which no pointer takes part.
@@ -125,10 +125,10 @@ STORE = re.compile(rf'store (?:ptr ({REGISTER})|(i8|i16|i32|i64) {OPERAND}), ptr
 COPY = re.compile(rf'call void @llvm\.memmove\.p0\.p0\.i64\(ptr ({REGISTER}), ptr ({REGISTER}), i64 (\d+), i1 false\)')
 FILL = re.compile(rf'call void @llvm\.memset\.p0\.i64\(ptr ({REGISTER}), i8 {OPERAND}, i64 (\d+), i1 false\)')
 CALL = re.compile(rf'(?:({REGISTER}) = )?call (void|{NUMBER}|{PAIR}) (?!@llvm\.)({FUNCTION})\((.*)\)')
-LOAD_PAIR = re.compile(rf'({REGISTER}) = load {PAIR}, ptr ({REGISTER}), align (\d+)')
-PART = re.compile(rf'({REGISTER}) = extractvalue {PAIR} ({REGISTER}), ([01])')
+LOAD_PAIR = re.compile(rf'({REGISTER}) = load ({PAIR}), ptr ({REGISTER}), align (\d+)')
+PART = re.compile(rf'({REGISTER}) = extractvalue ({PAIR}) ({REGISTER}), ([01])')
 IS_NULL = re.compile(rf'{REGISTER} = icmp eq ptr ({REGISTER}), null')
-GIVE_BACK = re.compile(rf'ret {PAIR} ({REGISTER})')
+GIVE_BACK = re.compile(rf'ret ({PAIR}) ({REGISTER})')
 ARGUMENT = re.compile(rf'(?:(ptr) ({REGISTER})|({NUMBER}) {OPERAND})')
 
 # `core::ptr::copy_drop::copy_bits` of bytes, by its lines: the one function that compares pointers, and copies as many bytes as a register says.
@@ -508,34 +508,38 @@ class Reader:
                 self.places.lead(address, self.pointers[register], line)
 
     def load_pair(self, found, line):
-        """A pointer and, 8 bytes behind it, a number: with pointers of 4 bytes too, since the number has an alignment of 8."""
-        register, pointer, alignment = found.groups()
-        address = self.address(pointer, line)
-        self.places.access(address, 'ptr', int(alignment), line)
-        self.places.access((address[0], None if address[1] is None else address[1] + 8), 'i64', int(alignment), line)
-        self.check_natural('ptr', alignment, line)
-        self.counts['pointers loaded and stored'] += 1
-        self.pairs[register] = (('loaded', self.function.name, register), 0)
-        if address[1] is not None:
-            self.places.lead(address, self.pairs[register], line)
+        """The second of a pair lies at the first multiple of its size behind the first: behind a pointer a number of 64 bits is 8 bytes from its start, with pointers of 4 bytes too."""
+        register, kind, pointer, alignment = found.groups()
+        first, second = kind.strip('{ }').split(', ')
+        place, offset = self.address(pointer, line)
+        behind = -(-BYTES[first] // BYTES[second]) * BYTES[second]
+        self.places.access((place, offset), first, min(int(alignment), BYTES[first]), line)
+        self.places.access((place, None if offset is None else offset + behind), second, min(int(alignment), BYTES[second]), line)
+        self.check_natural(max(first, second, key=BYTES.get), alignment, line)
+        self.pairs[register] = kind, (('loaded', self.function.name, register), 0)
+        if first == 'ptr':
+            self.counts['pointers loaded and stored'] += 1
+            if offset is not None:
+                self.places.lead((place, offset), self.pairs[register][1], line)
 
     def part(self, found, line):
-        register, pair, number = found.groups()
-        if pair not in self.pairs:
+        register, kind, pair, number = found.groups()
+        if self.pairs.get(pair, ('',))[0] != kind:
             self.faults.append(Fault(line, 'origin', pair))
-        elif number == '0':
-            self.pointers[register] = self.pairs[pair]
+        elif number == '0' and kind.startswith('{ ptr'):
+            self.pointers[register] = self.pairs[pair][1]
+
+    def give_back(self, found, line):
+        kind, pair = found.groups()
+        if self.pairs.get(pair, ('',))[0] != kind or self.function.result != kind:
+            self.faults.append(Fault(line, 'origin', pair))
+        elif kind.startswith('{ ptr'):
+            self.counts['pointers given back'] += 1
+            self.places.join(self.pairs[pair][1], (('result', self.function.name), 0), line)
 
     def is_null(self, found, line):
         self.counts['comparisons with null'] += 1
         self.address(found[1], line)
-
-    def give_back(self, found, line):
-        self.counts['pointers given back'] += 1
-        if found[1] not in self.pairs or self.function.result != PAIR:
-            self.faults.append(Fault(line, 'origin', found[1]))
-        else:
-            self.places.join(self.pairs[found[1]], (('result', self.function.name), 0), line)
 
     def store(self, found, line):
         stored, number, pointer, alignment = found.groups()
@@ -586,8 +590,8 @@ class Reader:
             self.faults.append(Fault(line, 'call', found[0]))
             return
         self.calls[self.function.name].setdefault(name, line)
-        if result == PAIR:
-            self.pairs[register] = (('result', name), 0)
+        if result.startswith('{'):
+            self.pairs[register] = result, (('result', name), 0)
         for k, argument in enumerate(arguments):
             if argument[1]:
                 address = self.start(self.address(argument[2], line), ('passed', self.function.name, line, k), line)

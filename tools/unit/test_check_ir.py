@@ -442,15 +442,17 @@ PATTERNS = [
     ('bytes', rf'^  {R} = load ptr, ptr {R}, align 8, !noundef !1\n', r'\g<0>  %x = load i64, ptr \2, align 8, !noundef !1\n'),
     ('bytes', rf'^  {R} = load ptr, ptr {R}, align 8, !noundef !1\n', r'\g<0>  %x = getelementptr i8, ptr \2, i64 4\n  %y = load i32, ptr %x, align 4\n'),
     # a slice that was copied before it is read as numbers
-    ('bytes', r'^define internal noundef i64 @"embed::chart_redo_page"\(ptr noundef (%\w+),.*\nstart:\n', r'\g<0>  %x = alloca [16 x i8], align 8\n  call void @llvm.memmove.p0.p0.i64(ptr %x, ptr \1, i64 16, i1 false)\n  %y = load i64, ptr %x, align 8\n'),
+    ('bytes', rf'^  store ptr %a0, ptr {R}, align 8\n  {R} = getelementptr i8, ptr \1, i64 8\n  store i64 %a1, ptr \2, align 8\n', r'\g<0>  %x = alloca [16 x i8], align 8\n  call void @llvm.memmove.p0.p0.i64(ptr %x, ptr \1, i64 16, i1 false)\n  %y = load i64, ptr %x, align 8\n'),
+    # a pair with a pointer, which is loaded to be given back, read as a number
+    ('bytes', rf'^  {R} = load {{ ptr, i64 }}, ptr {R}, align 8\n', r'\g<0>  %x = load i64, ptr \2, align 8\n'),
     # a place for a pointer: used for a number, passed to be copied, and made of what was an array
     ('place', rf'^  {R} = alloca ptr, align 8\n', r'\g<0>  %x = alloca ptr, align 8\n  store i64 0, ptr %x, align 8\n'),
-    ('place', rf'^  {R} = alloca \[16 x i8\], align 8\n  call void @llvm\.memmove\.p0\.p0\.i64\(ptr \1,', r'  \1 = alloca ptr, align 8\n  call void @llvm.memmove.p0.p0.i64(ptr \1,'),
+    ('place', rf'^  {R} = alloca \[16 x i8\], align 8\n  call void @llvm\.memset\.p0\.i64\(ptr \1,', r'  \1 = alloca ptr, align 8\n  call void @llvm.memset.p0.i64(ptr \1,'),
     ('index', rf'^  {R} = getelementptr inbounds nuw i8, ptr {R}, i64 {R}\n', r'\g<0>  %x = load ptr, ptr \1, align 8\n'),
     # a pointer in the memory of the host: stored by a function for C, and loaded by the function that it calls
-    ('lent', r'^(define noundef i64 @\w+\(ptr noundef (%\w+),.*\nstart:\n)', r'\1  store ptr \2, ptr \2, align 8\n'),
-    ('lent', r'^(define internal noundef i64 @"embed::chart_\w+_on"\(ptr noundef (%\w+),.*\nstart:\n)', r'\1  %x = load ptr, ptr \2, align 8\n'),
-    ('beyond', rf'^  {R} = alloca \[16 x i8\], align 8\n(  call void @llvm\.memmove\.p0\.p0\.i64\(ptr \1, .*, i64) 16', r'  \1 = alloca [16 x i8], align 8\n\2 24'),
+    ('lent', r'^(define noundef i64 @chart_redo_page\(ptr noundef (%\w+),.*\nstart:\n)', r'\1  store ptr \2, ptr \2, align 8\n'),
+    ('lent', r'^(define internal noundef i64 @"embed::chart_\w+_on"\((?:ptr noundef %\w+, ){4}ptr noundef (%\w+),.*\nstart:\n)', r'\1  %x = load ptr, ptr \2, align 8\n'),
+    ('beyond', rf'^  {R} = alloca \[16 x i8\], align 8\n(  call void @llvm\.memset\.p0\.i64\(ptr \1, i8 0, i64) 16', r'  \1 = alloca [16 x i8], align 8\n\2 24'),
     ('alignment', rf'^  {R} = load i64, ptr {R}, align 8', r'  \1 = load i64, ptr \2, align 16'),
     ('call', r'^(  %\w+ = call i64 @"embed::chart_\w+_on"\()ptr %a0', r'\1i64 %a6'),
     ('form', r'^(  call void @llvm\.memmove.*, i64) \d+,', r'\1 %r0,'),
