@@ -4,6 +4,7 @@ pub mod Freedom
 pub mod Demand
 pub mod Survives
 pub mod Swapped
+pub mod CostOfOpening
 pub mod OpeningCost
 pub mod Below
 pub mod FlatTables

@@ -1,4 +1,4 @@
--- 02, L6 of the functions for C, from what holds of whatever meets the contract of open.
+-- 02, L6 of the functions for C, for each n: an opening of the log of a begin and n - 1 changes.
 use Prim.Native.Nat.{ℕ, ◌≤◌}
 use native.Mathlib.Omega.{arith}
 use mathlib.Core.Bool.{true}
@@ -14,16 +14,11 @@ use Rattle.book.specs.OpeningCost.{costliest, Costliest}
 use Rattle.book.proofs.CostliestLogs.{costliest-log}
 use Rattle.state.specs.World.{right_lengths, fuse_of_number}
 use Rattle.state.specs.OpeningCost.{CostOfOpening}
-use Rattle.state.proofs.OpeningCost.{costliest-opening}
 use Rattle.embed_model.specs.Arrays.{Arrays, world_in}
 use Rattle.embed_model.specs.Packed.{answer_in, writes_in}
 use Rattle.embed_model.specs.Called.{answered_in, OpensOfC}
 use Rattle.embed_model.specs.OpeningCost.{CostOfOpenOfC}
-
-pub cost-of-open-of-c : CostOfOpenOfC
-unfolding CostOfOpenOfC
-cost-of-open-of-c fuse given rs number leaves log opens =
-    costliest-opening.opening (fuse_of_number fuse) (world_in given) rs (answered_in number leaves) log opens.does
+use Rattle.embed_model.proofs.CostOfOpening.{cost-of-open-of-c}
 
 -- ── For each n ────────────────────────────────────────────────────────────────────────────────────────────────────────
 
