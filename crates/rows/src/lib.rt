@@ -11,18 +11,18 @@ mod table;
 pub mod writer;
 
 // A row's number, from 1.
-#[derive(Clone, Copy)]
+#[derive(Clone, Copy, Default, PartialEq, Eq)]
 pub struct Lsn(pub u16);
 
 // A visit's number, from 1.
-#[derive(Clone, Copy)]
+#[derive(Clone, Copy, Default, PartialEq, Eq)]
 pub struct Visit(pub u16);
 
 // A cell's number.
-#[derive(Clone, Copy)]
+#[derive(Clone, Copy, Default, PartialEq, Eq)]
 pub struct Cell(pub u8);
 
-#[derive(Clone, Copy)]
+#[derive(Clone, Copy, PartialEq, Eq)]
 pub enum Row {
     // the visit that begins
     Begin(Visit),
@@ -39,7 +39,7 @@ pub enum Row {
 }
 
 // What 16 bytes are read as.
-#[derive(Clone, Copy)]
+#[derive(Clone, Copy, PartialEq, Eq)]
 pub enum Read {
     // a row whose bytes and fields are as 01's table has them
     Valid(Row),
@@ -52,7 +52,7 @@ pub enum Read {
 }
 
 // What a row does to the charts.
-#[derive(Clone, Copy)]
+#[derive(Clone, Copy, PartialEq, Eq)]
 pub enum Effect {
     Nothing,
     Adds(Cell, i16),
