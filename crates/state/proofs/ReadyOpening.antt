@@ -7,7 +7,7 @@ use lib.ListN.{length}
 use Rattle.book.specs.Rows.{Row}
 use Rattle.book.specs.Ledger.{ledger}
 use Rattle.book.specs.Power.{Fuse}
-use Rattle.book.specs.Book.{Answer, answer, closing, reopened, reopen}
+use Rattle.book.specs.Book.{Answer, closing, reopened, reopen}
 use Rattle.book.specs.LogBytes.{log_bytes}
 use Rattle.book.specs.Opening.{Opened, open_bytes}
 use Rattle.book.proofs.Openings.{ended-done}

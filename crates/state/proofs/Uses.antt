@@ -8,6 +8,7 @@ use mathlib.Core.Logic.{inl, inr}
 use mathlib.Core.List.{List}
 use lib.ListN.{length}
 use lib.IntN.{ℤ, pos}
+use Rattle.std.specs.Prelude.{Result}
 use Rattle.book.specs.Limits.{page_limit}
 use Rattle.book.specs.Rows.{Row}
 use Rattle.book.specs.Rules.{allowed_log}
@@ -20,7 +21,8 @@ use Rattle.book.specs.Opening.{bad_page}
 use Rattle.book.specs.OpeningCost.{BeginsAndChanges, costliest}
 use Rattle.book.specs.Logs.{Sound}
 use Rattle.book.proofs.Lists.{clash}
-use Rattle.state.specs.declared.answers.Answer.{Answer as TheAnswer}
+use Rattle.state.specs.declared.answers.Done.{Done}
+use Rattle.state.specs.declared.answers.Refusal.{Refusal}
 use Rattle.state.specs.declared.ram.Fuse as ram
 use Rattle.state.specs.declared.ram.Fuse.TheVariants.{Left}
 use Rattle.state.specs.declared.requests.Request.TheVariants.{Begin}
@@ -141,7 +143,7 @@ module _ (given : World) (x : Answered) (post : CallPost (Call.flush 0) given x)
   flush-counts-a-page e = rw e at post.pages
 
 -- the functions: each answers with the case of its call, or a refusal; a cell's value is the answer of a read alone
-not-grams : (c : Case) (a : TheAnswer) → (c ≡ grams → ⊥) → HasCase c a → case_of a ≡ grams → ⊥
+not-grams : (c : Case) (a : Result Done Refusal) → (c ≡ grams → ⊥) → HasCase c a → case_of a ≡ grams → ⊥
 not-grams c a other (inl e) g = other (sym e ∙ g)
 not-grams c a other (inr e) g = let z : ◌≡◌ {A = ℕ} 0 1 = cc in omega arith
 

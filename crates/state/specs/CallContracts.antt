@@ -11,7 +11,7 @@ use Rattle.book.specs.LogBytes.{log_bytes}
 use Rattle.book.specs.Pages.{page_bytes, chart_bytes, page_after}
 use Rattle.book.specs.Opening.{Opened, open_bytes}
 use Rattle.tables_model.specs.declared.Scope.{Scope}
-use Rattle.state.specs.declared.answers.Result.{Result}
+use Rattle.state.specs.declared.answers.Reply.{Reply}
 use Rattle.state.specs.Answers.{number_and_value, rows_and_pages}
 use Rattle.state.specs.World.{World, world, right_lengths, works, state_of, table_of, cleared, world_of, Represents}
 
@@ -23,14 +23,14 @@ pub record Answered : Type 0 where
 
 -- what a function gives back, and what the lent buffers are after it
 pub record Returned : Type 0 where
-  pub result : Result
+  pub result : Reply
   pub log : List ℕ
   pub charts : List ℕ
   pub copy : List ℕ
   pub scopes : List Scope
 
 -- by its parts
-abbrev pub returned : Result → List ℕ → List ℕ → List ℕ → List Scope → Returned
+abbrev pub returned : Reply → List ℕ → List ℕ → List ℕ → List Scope → Returned
 returned r log charts copy scopes = record { result = r; log = log; charts = charts; copy = copy; scopes = scopes }
 
 -- with the refusal number and the value of the answer

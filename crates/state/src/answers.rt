@@ -1,17 +1,23 @@
-// What a call answers: its result, or the reason why it was refused. `specs/Answers` has the number and value of each case, by documents 01 and 02.
-ghost use Rattle.std.specs.Prelude.{◌≡◌, pos};
+// What a call answers: what it has done, or the reason why it was refused. `specs/Answers` has the number and value of each case, by documents 01 and 02.
+ghost use Rattle.std.specs.Prelude.{◌≡◌};
 ghost use Rattle.state.specs.Answers.{number_and_value};
 
 use crate::ram::State;
 use rows::{Cell, Lsn, Visit};
 
+// What a call that was done gives.
 #[derive(Clone, Copy)]
-pub enum Answer {
-    Done,
+pub enum Done {
+    Nothing,
     Visit(Visit),
     Row(Lsn),
     Grams(i32),
     Wrote(u16), // the rows that an opening wrote
+}
+
+// Why a call was refused.
+#[derive(Clone, Copy)]
+pub enum Refusal {
     WrongLength,
     CellOutOfRange(Cell),
     WrongBytes(Lsn), // the first row of the log that is not allowed, and why
@@ -30,8 +36,10 @@ pub enum Answer {
     NoSuchPage,
 }
 
+pub type Answer = Result<Done, Refusal>;
+
 // The stored writes that a call landed, rows and pages.
-#[derive(Clone, Copy)]
+#[derive(Clone, Copy, Default)]
 pub struct Writes {
     pub rows: usize,
     pub pages: usize,
@@ -39,16 +47,10 @@ pub struct Writes {
 
 // What a call gives back.
 #[derive(Clone, Copy)]
-pub struct Result {
+pub struct Reply {
     pub state: State,
     pub answer: Answer,
     pub writes: Writes,
-}
-
-pub fn no_writes() -> Writes
-    ensures { result ≡ record { rows = 0; pages = 0 } }
-{
-    Writes { rows: 0, pages: 0 }
 }
 
 // The refusal number, 0 where the call was done.
@@ -56,35 +58,24 @@ pub fn number_of(a: Answer) -> u8
     ensures { result ≡ (number_and_value a).number }
 {
     match a {
-        Answer::Done => 0,
-        Answer::Visit(_) => 0,
-        Answer::Row(_) => 0,
-        Answer::Grams(_) => 0,
-        Answer::Wrote(_) => 0,
-        Answer::WrongLength => 1,
-        Answer::CellOutOfRange(_) => 2,
-        Answer::WrongBytes(_) => 3,
-        Answer::BreaksRule(_) => 16,
-        Answer::OverLimit(_) => 17,
-        Answer::BadPage(_) => 4,
-        Answer::Closed => 5,
-        Answer::VisitsUsedUp => 6,
-        Answer::TooManyActive => 7,
-        Answer::NoRoom => 8,
-        Answer::NotActive => 9,
-        Answer::NoSuchCell => 10,
-        Answer::ScopesUsedUp => 11,
-        Answer::SameVisit => 12,
-        Answer::HoldsNone => 13,
-        Answer::NoSuchPage => 14,
+        Ok(_) => 0,
+        Err(Refusal::WrongLength) => 1,
+        Err(Refusal::CellOutOfRange(_)) => 2,
+        Err(Refusal::WrongBytes(_)) => 3,
+        Err(Refusal::BreaksRule(_)) => 16,
+        Err(Refusal::OverLimit(_)) => 17,
+        Err(Refusal::BadPage(_)) => 4,
+        Err(Refusal::Closed) => 5,
+        Err(Refusal::VisitsUsedUp) => 6,
+        Err(Refusal::TooManyActive) => 7,
+        Err(Refusal::NoRoom) => 8,
+        Err(Refusal::NotActive) => 9,
+        Err(Refusal::NoSuchCell) => 10,
+        Err(Refusal::ScopesUsedUp) => 11,
+        Err(Refusal::SameVisit) => 12,
+        Err(Refusal::HoldsNone) => 13,
+        Err(Refusal::NoSuchPage) => 14,
     }
-}
-
-// A number of 16 bits as a value.
-fn as_value(n: u16) -> i32
-    ensures { result ≡ pos n }
-{
-    n as i32
 }
 
 // Document 01's value, 0 where it names none.
@@ -92,26 +83,16 @@ pub fn value_of(a: Answer) -> i32
     ensures { result ≡ (number_and_value a).value }
 {
     match a {
-        Answer::Done => 0,
-        Answer::Visit(v) => as_value(v.0),
-        Answer::Row(n) => as_value(n.0),
-        Answer::Grams(z) => z,
-        Answer::Wrote(n) => as_value(n),
-        Answer::WrongLength => 0,
-        Answer::CellOutOfRange(c) => as_value(c.0 as u16),
-        Answer::WrongBytes(n) => as_value(n.0),
-        Answer::BreaksRule(n) => as_value(n.0),
-        Answer::OverLimit(n) => as_value(n.0),
-        Answer::BadPage(p) => as_value(p as u16),
-        Answer::Closed => 0,
-        Answer::VisitsUsedUp => 0,
-        Answer::TooManyActive => 0,
-        Answer::NoRoom => 0,
-        Answer::NotActive => 0,
-        Answer::NoSuchCell => 0,
-        Answer::ScopesUsedUp => 0,
-        Answer::SameVisit => 0,
-        Answer::HoldsNone => 0,
-        Answer::NoSuchPage => 0,
+        Ok(Done::Nothing) => 0,
+        Ok(Done::Visit(v)) => i32::from(v.0),
+        Ok(Done::Row(n)) => i32::from(n.0),
+        Ok(Done::Grams(z)) => z,
+        Ok(Done::Wrote(n)) => i32::from(n),
+        Err(Refusal::CellOutOfRange(c)) => i32::from(c.0),
+        Err(Refusal::WrongBytes(n) | Refusal::BreaksRule(n) | Refusal::OverLimit(n)) => i32::from(
+            n.0,
+        ),
+        Err(Refusal::BadPage(p)) => i32::from(p),
+        Err(_) => 0,
     }
 }

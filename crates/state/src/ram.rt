@@ -6,14 +6,14 @@ use rows::limits::TAIL_LENGTH;
 use tables_model::Tables;
 
 // Closed until it is opened, and after a power failure.
-#[derive(Clone, Copy)]
+#[derive(Clone, Copy, PartialEq, Eq)]
 pub enum Phase {
     Open,
     Closed,
 }
 
 // The stored writes that still land: without limit, or so many.
-#[derive(Clone, Copy)]
+#[derive(Clone, Copy, PartialEq, Eq)]
 pub enum Fuse {
     Unlimited,
     Left(u32),
@@ -22,13 +22,15 @@ pub enum Fuse {
 // The number that stands for no fuse, in run files and for C.
 pub const NO_FUSE: u32 = 4294967295;
 
-pub fn fuse_of_number(n: u32) -> Fuse
-    ensures { allowance result ≡ fuse_of_number n }
-{
-    if n == NO_FUSE {
-        Fuse::Unlimited
-    } else {
-        Fuse::Left(n)
+impl From<u32> for Fuse {
+    ghost from_gives = { λ n fuse. allowance fuse ≡ fuse_of_number n };
+
+    fn from(n: u32) -> Fuse {
+        if n == NO_FUSE {
+            Fuse::Unlimited
+        } else {
+            Fuse::Left(n)
+        }
     }
 }
 

@@ -21,15 +21,5 @@ pub enum Request {
 pub fn is_typed(request: Request)
     ensures { Typed (call_of request) }
 {
-    match request {
-        Request::Begin => {}
-        Request::Change(_, _, _a) => {}
-        Request::HandOver(_, _, _) => {}
-        Request::Commit(_) => {}
-        Request::Abort(_) => {}
-        Request::Force => {}
-        Request::Flush(_) => {}
-        Request::Read(_) => {}
-        Request::HandOverAll(_, _) => {}
-    }
+    if let Request::Change(_, _, _a) = request {}
 }
