@@ -9,6 +9,7 @@ use lib.ListN.{length, replicate}
 use lib.IntN.{ℤ, pos, negsuc}
 use lib.Dec.{eqb, ltb}
 use borrow.Author.Tests.{eqb-true, eq-eqb}
+use Rattle.std.specs.Prelude.{Result, Ok, Err}
 use Rattle.book.specs.Lists.{member}
 use Rattle.book.specs.Limits.{cell_limit}
 use Rattle.book.specs.Calls.{Call, Return, the_visit, the_row, the_cell, zero_value, returns}
@@ -21,16 +22,17 @@ use Rattle.book.specs.Events.{Event, opens, calls, happens, answers}
 use Rattle.book.specs.LogBytes.{log_bytes}
 use Rattle.book.proofs.Lists.{and_i}
 use Rattle.book.proofs.Sound.{TypedEvents, Decided, refuses, accepts, decided}
-use Rattle.state.specs.declared.answers.Answer.{Answer}
-use Rattle.state.specs.declared.answers.Answer.TheVariants.{Done, Visit, Row, Grams, Wrote, WrongLength, Closed, VisitsUsedUp, TooManyActive, NoRoom, NotActive, NoSuchCell, ScopesUsedUp, SameVisit, HoldsNone, NoSuchPage}
+use Rattle.state.specs.declared.answers.Done.{Done}
+use Rattle.state.specs.declared.answers.Done.TheVariants.{Nothing, Visit, Row, Grams, Wrote}
+use Rattle.state.specs.declared.answers.Refusal.{Refusal}
+use Rattle.state.specs.declared.answers.Refusal.TheVariants.{WrongLength, Closed, VisitsUsedUp, TooManyActive, NoRoom, NotActive, NoSuchCell, ScopesUsedUp, SameVisit, HoldsNone, NoSuchPage}
 use Rattle.state.specs.declared.requests.Request.{Request}
 use Rattle.state.specs.declared.requests.Request.TheVariants.{Begin, Change, HandOver, Commit, Abort, Force, Flush, Read, HandOverAll}
-use Rattle.state.specs.Answers.{number_and_value, Case, written, done_case, HasCase}
+use Rattle.state.specs.Answers.{refusal_answer, number_and_value, Case, written, done_case, HasCase}
 use Rattle.state.specs.Requests.{call_of}
 use Rattle.state.specs.World.{World, right_lengths, fuse_of, allowance, cleared}
 use Rattle.state.specs.CallContracts.{Answered, Returned, returned, answered_by, answered, bad_cell, cells_of, formats, numbers, OpenPost, CallPost}
 use Rattle.state.proofs.FormattedStores.{new_charts}
-use Rattle.state.proofs.Cases.{refusal-case}
 use Rattle.sessions.specs.Host.{Opening, Called, Session, Step, opened, called, steps, answer_of, event_of, Host, Contract, Contracts}
 use Rattle.sessions.specs.Demand3.{Demand3}
 use Rattle.sessions.specs.Made.{FormatCall, OpenCall, OtherCall, Made, called_by, session_of}
@@ -42,18 +44,18 @@ use Rattle.sessions.proofs.EveryList.{every-list}
 
 -- an answer of the functions with this number and value, and of this case or a refusal
 record Given (c : Case) (a : book.Answer) : Type 0 where
-  answer : Answer
+  answer : Result Done Refusal
   is : number_and_value answer ≡ a
   case : HasCase c answer
 
 -- the refusals of the calls of an open store
-abbrev refusal_of : ℕ → Answer
+abbrev refusal_of : ℕ → Refusal
 refusal_of n =
     cond (eqb n 1) WrongLength (cond (eqb n 6) VisitsUsedUp (cond (eqb n 7) TooManyActive (cond (eqb n 8) NoRoom (cond (eqb n 9) NotActive
     (cond (eqb n 10) NoSuchCell (cond (eqb n 11) ScopesUsedUp (cond (eqb n 12) SameVisit (cond (eqb n 13) HoldsNone (cond (eqb n 14) NoSuchPage Closed)))))))))
 
 abbrev Refuses : ℕ → Type 0
-Refuses n = (n ≡ 0) ⊎ (number_and_value (refusal_of n) ≡ refused_by n)
+Refuses n = (n ≡ 0) ⊎ (refusal_answer (refusal_of n) ≡ refused_by n)
 
 -- what holds of each number of a list holds of its members
 abbrev Each : (ℕ → Type 0) → List ℕ → Type 0
@@ -82,18 +84,14 @@ refuses-all (Call.hand_over_all g r) = (inl refl, (inr refl, (inr refl, (inr ref
 -- a refusal by a number of the table
 refusal-given : (c : Case) (n : ℕ) → Refuses (suc n) → Given c (refused_by (suc n))
 refusal-given c n (inl z) = absurd (omega arith)
-refusal-given c n (inr e) = record {
-  answer = refusal_of (suc n);
-  is = e;
-  case = inr (refusal-case (refusal_of (suc n)) (λ z. let q = sym (ap (λ (a : book.Answer). a.number) e) ∙ z in omega arith));
-}
+refusal-given c n (inr e) = record { answer = Err (refusal_of (suc n)); is = e; case = inr refl }
 
 -- what a call that is done gives back
 value-given : (cells : ℕ → ℤ) (b : Book) (k : Call) (r : Return) → Given (done_case r) (done (value_of cells b k r))
-value-given cells b k the_visit = record { answer = Visit (record { 0 = suc (ledger_of b).begun }); is = refl; case = inl refl }
-value-given cells b k the_row = record { answer = Row (record { 0 = length (rows_of b) + length (adds b k) }); is = refl; case = inl refl }
-value-given cells b k (the_cell c) = record { answer = Grams (applied cells (rows_of b) c); is = refl; case = inl refl }
-value-given cells b k zero_value = record { answer = Done; is = refl; case = inl refl }
+value-given cells b k the_visit = record { answer = Ok (Visit (record { 0 = suc (ledger_of b).begun })); is = refl; case = inl refl }
+value-given cells b k the_row = record { answer = Ok (Row (record { 0 = length (rows_of b) + length (adds b k) })); is = refl; case = inl refl }
+value-given cells b k (the_cell c) = record { answer = Ok (Grams (applied cells (rows_of b) c)); is = refl; case = inl refl }
+value-given cells b k zero_value = record { answer = Ok Nothing; is = refl; case = inl refl }
 
 -- by the book, and of a number of the call's table
 call-given : (cells : ℕ → ℤ) (b : Book) (lengths : Bool) (k : Call) → member (call cells b lengths k).answer.number (numbers k) ≡ true
@@ -103,7 +101,7 @@ call-given cells b lengths k listed = go (decided cells b lengths k)
   where
     ends : (t : Bool) → Given (done_case (returns k)) (cond t (record { answer = done (value cells b k); book = through b k }) (refused 5 (through b k))).answer
     ends true = value-given cells b k (returns k)
-    ends false = record { answer = Closed; is = refl; case = inr refl }
+    ends false = record { answer = Err Closed; is = refl; case = inr refl }
 
     go : Decided cells b lengths k (call cells b lengths k) → Given (done_case (returns k)) (call cells b lengths k).answer
     go (refuses n e) =
@@ -120,9 +118,9 @@ open-given b true f = go (reopened f b.stored).is_open
     n = length (closing (ledger b.stored))
 
     go : (t : Bool) → Given written (cond t (record { answer = done (pos n); book = reopened f b.stored }) (refused 5 (reopened f b.stored))).answer
-    go true = record { answer = Wrote n; is = refl; case = inl refl }
-    go false = record { answer = Closed; is = refl; case = inr refl }
-open-given b false f = record { answer = WrongLength; is = refl; case = inr refl }
+    go true = record { answer = Ok (Wrote n); is = refl; case = inl refl }
+    go false = record { answer = Err Closed; is = refl; case = inr refl }
+open-given b false f = record { answer = Err WrongLength; is = refl; case = inr refl }
 
 -- ── Steps ─────────────────────────────────────────────────────────────────────────────────────────────────────────────
 
@@ -149,12 +147,12 @@ steps-given cells b (s ∷ ss) e post = (
 -- ── The calls that were made ──────────────────────────────────────────────────────────────────────────────────────────
 
 -- what the function gave back and left
-abbrev returned_as : Answer → Answered → Returned
+abbrev returned_as : Result Done Refusal → Answered → Returned
 returned_as a x =
     returned (record { state = x.world.state; answer = a; writes = record { rows = x.writes.rows; pages = x.writes.pages } })
     x.world.log x.world.charts x.world.copy x.world.scopes
 
-returned-is : (a : Answer) (x : Answered) → number_and_value a ≡ x.answer → answered_by (returned_as a x) ≡ x
+returned-is : (a : Result Done Refusal) (x : Answered) → number_and_value a ≡ x.answer → answered_by (returned_as a x) ≡ x
 returned-is a x e = ap (λ (y : book.Answer). record { answer = y; world = x.world; writes = x.writes }) e
 
 fuse-is : (f : Fuse) → allowance (fuse_of f) ≡ f
@@ -276,7 +274,7 @@ any-format values long good given right =
       record {
         cells = values;
         given = given;
-        return = returned_as Done x;
+        return = returned_as (Ok Nothing) x;
         ensures = record { post = record { is = sym (formats-done values given right long good) }; case = inl refl };
       },
       refl,
