@@ -1,13 +1,11 @@
 -- The counters stay within the arrays over a row. Assumes nothing.
-use Rattle.std.proofs.Common.{◌≡◌, ℕ, suc, ◌≤◌, Bool, true, false, not, ◌||◌, eqb, ltb, List, [], ◌∷◌, length, take, refl, arith, length-take, ltb-true}
+use Rattle.std.proofs.Common.{◌≡◌, ℕ, suc, ◌≤◌, Bool, true, false, not, ◌||◌, eqb, ltb, List, [], ◌∷◌, length, take, refl, arith, length-take, ltb-true, is_some, Option, Some, None}
 use Rattle.book.specs.Lists.{keep}
 use Rattle.book.specs.Rows.{Row, begin, change, hand_over, undo, commit, abort, hand_over_all}
 use Rattle.book.specs.Scopes.{Scope}
-use Rattle.tables_model.specs.declared.Found.{Found}
-use Rattle.tables_model.specs.declared.Found.TheVariants.{At, Nothing}
 use Rattle.tables_model.specs.Visits.{InRange, is_of, with_begun, with_undo, with_ended}
 use Rattle.tables_model.specs.Table.{find, grows, changed_at, scopes_changed, scopes_ended}
-use Rattle.tables_model.specs.Rows.{Index, is_some, grows_by, after_end, step_by, Takes}
+use Rattle.tables_model.specs.Rows.{Index, grows_by, after_end, step_by, Takes}
 
 module _ {A : Type 0} where
   keep_one : (p : A → Bool) (x : A) (xs : List A) (b : Bool) → p x ≡ b → length (keep p xs) ≤ length xs → length (keep p (x ∷ xs)) ≤ suc (length xs)
@@ -22,9 +20,9 @@ module _ {A : Type 0} where
 kept-few : {A : Type 0} (p : A → Bool) (n m : ℕ) (xs : List A) → n ≤ m → length (keep p (take n xs)) ≤ m
 kept-few p n m xs h = omega (arith, keep-length p (take n xs), length-take n xs)
 
-changed-few : (used n v c : ℕ) (ss : List Scope) (f : Found) → used ≤ 64 → is_some f || ltb used 64 ≡ true → (changed_at used n v c f ss).used ≤ 64
-changed-few used n v c ss (At i) h k = h
-changed-few used n v c ss Nothing h k = ltb-true _ _ k
+changed-few : (used n v c : ℕ) (ss : List Scope) (f : Option ℕ) → used ≤ 64 → is_some f || ltb used 64 ≡ true → (changed_at used n v c f ss).used ≤ 64
+changed-few used n v c ss (Some i) h k = h
+changed-few used n v c ss None h k = ltb-true _ _ k
 
 ended-range : (x : Index) (v : ℕ) → InRange x.tables.count x.tables.used → InRange (after_end x v).tables.count (after_end x v).tables.used
 unfolding with_ended scopes_ended

@@ -1,23 +1,19 @@
 -- What the row rules give to the functions: where the entries found lie, and what an allowed row has room for. Assumes nothing.
-use Rattle.std.proofs.Common.{◌≡◌, ℕ, ◌≤◌, Bool, true, false, cond, ◌&&◌, List, [], sym, refl, arith, ltb-true, eqb-true}
+use Rattle.std.proofs.Common.{◌≡◌, ℕ, ◌≤◌, Bool, true, false, ◌&&◌, List, [], sym, refl, arith, ltb-true, eqb-true, Option, Some, None, Ok}
 use Rattle.book.specs.Rows.{Row, begin, change, hand_over, undo, commit, abort, hand_over_all}
 use Rattle.book.specs.Scopes.{Scope}
 use Rattle.tables_model.specs.declared.Counts.{Counts}
 use Rattle.tables_model.specs.declared.Whom.{Whom}
-use Rattle.tables_model.specs.declared.Found.{Found}
-use Rattle.tables_model.specs.declared.Found.TheVariants.{At, Nothing}
-use Rattle.tables_model.specs.declared.Verdict.{Verdict}
-use Rattle.tables_model.specs.declared.Verdict.TheVariants.{Allowed, Unlawful, OverLimit}
 use Rattle.tables_model.specs.Table.{highest, Reaches, MayNote}
-use Rattle.tables_model.specs.Rows.{Index, grows_by, Changes, lawful_by, within_limits_by, judge_by, Takes}
+use Rattle.tables_model.specs.Rows.{Index, grows_by, Changes, lawful_by, within_limits_by, verdict, judge_by, Takes}
 use Rattle.tables.proofs.Searches.{highest-below}
 
 -- the entry with the highest open change lies within the table
-reaches-by : (w : Whom) (used size : ℕ) (ss : List Scope) (f : Found) → highest w used ss ≡ f → used ≤ 64 → size ≡ 448 → Reaches size f
-reaches-by w used size ss (At i) e h k = (k, omega (arith, highest-below w used ss i e))
-reaches-by w used size ss Nothing e h k = k
+reaches-by : (w : Whom) (used size : ℕ) (ss : List Scope) (f : Option ℕ) → highest w used ss ≡ f → used ≤ 64 → size ≡ 448 → Reaches size f
+reaches-by w used size ss (Some i) e h k = (k, omega (arith, highest-below w used ss i e))
+reaches-by w used size ss None e h k = k
 
-pub reaches : (w : Whom) (used size : ℕ) (ss : List Scope) (f : Found) → f ≡ highest w used ss → used ≤ 64 → size ≡ 448 → Reaches size f
+pub reaches : (w : Whom) (used size : ℕ) (ss : List Scope) (f : Option ℕ) → f ≡ highest w used ss → used ≤ 64 → size ≡ 448 → Reaches size f
 reaches w used size ss f e = reaches-by w used size ss f (sym e)
 
 -- a change that has an entry may be noted
@@ -35,17 +31,11 @@ both_left : (a b : Bool) → a && b ≡ true → a ≡ true
 both_left true b e = refl
 both_left false b e = e
 
-never : {A : Type 0} → (e : ◌≡◌ {A = Verdict} Unlawful Allowed) → A
-never e = let z : ◌≡◌ {A = ℕ} 0 1 = cc in absurd (omega arith)
-
-over : {A : Type 0} → (e : ◌≡◌ {A = Verdict} OverLimit Allowed) → A
-over e = let z : ◌≡◌ {A = ℕ} 0 1 = cc in absurd (omega arith)
-
 -- both tests were passed
-tests : (l w : Bool) → cond l (cond w Allowed OverLimit) Unlawful ≡ Allowed → (l ≡ true) × (w ≡ true)
+tests : (l w : Bool) → verdict l w ≡ Ok tt → (l ≡ true) × (w ≡ true)
 tests true true e = (refl, refl)
-tests true false e = over e
-tests false w e = never e
+tests true false e = cc
+tests false w e = cc
 
 takes : (x : Index) (rows : ℕ) (named r : Row) → lawful_by x named r ≡ true → within_limits_by x rows r ≡ true → Takes x r
 unfolding lawful_by within_limits_by
@@ -58,6 +48,6 @@ takes x rows named (abort v) l w = tt
 takes x rows named (hand_over_all g r) l w = tt
 
 -- the tables have room for what an allowed row adds to them
-pub allowed-takes : (x : Index) (rows : ℕ) (named r : Row) → judge_by x rows named r ≡ Allowed → Takes x r
+pub allowed-takes : (x : Index) (rows : ℕ) (named r : Row) → judge_by x rows named r ≡ Ok tt → Takes x r
 unfolding judge_by
 allowed-takes x rows named r e = let k = tests (lawful_by x named r) (within_limits_by x rows r) e in takes x rows named r k.0 k.1

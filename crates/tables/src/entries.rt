@@ -1,5 +1,5 @@
 // The flat scope table, entry by entry, and field by field where a loop needs no more of an entry.
-ghost use Rattle.std.specs.Prelude.{◌≡◌, ◌+◌, ◌*◌, ◌<◌, length, replicate, slice_index_or, slice_set};
+ghost use Rattle.std.specs.Prelude.{◌≡◌, ◌+◌, ◌*◌, ◌<◌, length, slice_index_or, slice_set};
 ghost use Rattle.book.specs.Scopes.{unused};
 ghost use Rattle.tables_model.specs.Entries.{Inside, scope_in, flag};
 ghost use Rattle.tables_model.specs.Layout.{entry_width, field_at, entry_at, entries as entries_of};
@@ -111,15 +111,4 @@ pub fn put_entry(t: &mut [u16], i: usize, e: Scope)
     put_number(t, i, LAST, e.last.0);
     put_number(t, i, HANDED, handed);
     put_number(t, i, COUNT, e.count);
-}
-
-// All numbers 0: no entry is in use.
-pub fn clear(t: &mut [u16])
-    ensures { t.new ≡ replicate (length t.old) 0 }
-{
-    let mut i: usize = 0;
-    while i < t.len() {
-        t[i] = 0;
-        i += 1;
-    }
 }

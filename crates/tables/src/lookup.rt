@@ -8,7 +8,7 @@ ghost use Rattle.tables_model.specs.Table.{find, grows, among, holds_cell, highe
 use crate::entries::{cell_at, count_at, entry_at, handed_at, holder_at, last_at, maker_at};
 use crate::scopes::{covers, is_held};
 use rows::{Cell, Lsn, Visit};
-use tables_model::{CellSet, Found, Whom};
+use tables_model::{CellSet, Whom};
 
 // Entry i grows by a change of the cell by the visit: it is a scope of the cell that its maker, the visit, has not handed over since. The cell is compared
 // first, since it rules most entries out.
@@ -28,7 +28,7 @@ fn grows_at(t: &[u16], i: usize, v: Visit, c: Cell) -> bool
 }
 
 // The first entry in use that a change of the cell by the visit grows.
-pub fn find_growing(t: &[u16], used: usize, v: Visit, c: Cell) -> Found
+pub fn find_growing(t: &[u16], used: usize, v: Visit, c: Cell) -> Option<usize>
     requires { Sized (length t.now) used }
     ensures { result ≡ find (grows v.0 c.0) used (entries_of t.now) }
 {
@@ -37,11 +37,11 @@ pub fn find_growing(t: &[u16], used: usize, v: Visit, c: Cell) -> Found
     while i < end {
         let at = i as usize;
         if grows_at(t, at, v, c) {
-            return Found::At(at);
+            return Some(at);
         }
         i += 1;
     }
-    Found::Nothing
+    None
 }
 
 // The visit holds changes of these cells.
@@ -74,7 +74,7 @@ fn last_by(t: &[u16], i: usize, w: Whom) -> u16
 }
 
 // The entry with the highest open change of these visits.
-pub fn highest(t: &[u16], used: usize, w: Whom) -> Found
+pub fn highest(t: &[u16], used: usize, w: Whom) -> Option<usize>
     requires { Sized (length t.now) used }
     ensures { result ≡ highest_in w used (entries_of t.now) }
 {
@@ -92,19 +92,19 @@ pub fn highest(t: &[u16], used: usize, w: Whom) -> Found
         i += 1;
     }
     if last == 0 {
-        return Found::Nothing;
+        return None;
     }
-    Found::At(found)
+    Some(found)
 }
 
 // The highest open change of the entry found, 0 for none.
-pub fn last_found(t: &[u16], found: Found) -> Lsn
+pub fn last_found(t: &[u16], found: Option<usize>) -> Lsn
     requires { Reaches (length t.now) found }
     ensures { result.0 ≡ last_at found (entries_of t.now) }
 {
     match found {
-        Found::At(i) => last_at(t, i),
-        Found::Nothing => Lsn(0),
+        Some(i) => last_at(t, i),
+        None => Lsn(0),
     }
 }
 

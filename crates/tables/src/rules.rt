@@ -11,7 +11,7 @@ use crate::lookup::{find_growing, highest, holds_cell, last_found, open_count};
 use crate::visits::{is_listed, may_act};
 use rows::limits::{ACTIVE_LIMIT, ROW_LIMIT, SCOPE_LIMIT};
 use rows::{Cell, Lsn, Row, Visit};
-use tables_model::{CellSet, Counts, Found, Verdict, Whom};
+use tables_model::{Breach, CellSet, Counts, Whom};
 
 // The rows that must stay free: an end for each active visit, and an undo for each open change.
 pub fn reserve(t: Counts, scopes: &[u16]) -> usize
@@ -55,11 +55,7 @@ fn grows_scope(t: Counts, scopes: &[u16], v: Visit, c: Cell) -> bool
     requires { Ranged t (length scopes.now) }
     ensures { (vs : List ℕ) → result ≡ grows_by (index t vs scopes.now) v.0 c.0 }
 {
-    let found = find_growing(scopes, t.used, v, c);
-    match found {
-        Found::At(_) => true,
-        Found::Nothing => false,
-    }
+    find_growing(scopes, t.used, v, c).is_some()
 }
 
 // A change of the cell by the visit has an entry: a vacant one, or that of a scope which it grows. The second test searches the table, so it comes second.
@@ -211,15 +207,15 @@ pub fn judge(
     rows: usize,
     row: Row,
     named: Row,
-) -> Verdict
+) -> Result<(), Breach>
     requires { Ready t (length visits.now) (length scopes.now) }
     ensures { result ≡ judge_by (index t visits.now scopes.now) rows (meant named) (meant row) }
 {
     if !is_lawful(t, visits, scopes, row, named) {
-        return Verdict::Unlawful;
+        return Err(Breach::Rule);
     }
     if !is_within_limits(t, scopes, rows, row) {
-        return Verdict::OverLimit;
+        return Err(Breach::Limit);
     }
-    Verdict::Allowed
+    Ok(())
 }

@@ -1,6 +1,5 @@
 // One entry of the scope table: the tests on it, and what a row makes of it.
 ghost use Rattle.std.specs.Prelude.{◌≡◌, ◌-◌};
-ghost use Rattle.book.specs.Scopes.{unused as unused_scope};
 ghost use Rattle.tables_model.specs.Entries.{scope_in};
 ghost use Rattle.tables_model.specs.Table.{among, is_held, covers as covers_by, grown as grown_scope};
 ghost use Rattle.tables_model.specs.Table.{started as started_scope, passed as passed_scope, lowered as lowered_scope};
@@ -37,21 +36,6 @@ pub fn covers(w: Whom, holder: Visit) -> bool
     match w {
         Whom::One(v) => holder.0 == v.0,
         Whom::All => true,
-    }
-}
-
-// A vacant entry.
-pub fn unused() -> Scope
-    ensures { scope_in result ≡ unused_scope }
-{
-    Scope {
-        maker: Visit(0),
-        holder: Visit(0),
-        cell: Cell(0),
-        first: Lsn(0),
-        last: Lsn(0),
-        handed: false,
-        count: 0,
     }
 }
 

@@ -7,7 +7,7 @@ use crate::lookup::highest;
 use crate::updates::{end_visit, hand_over, note_change, undo_at};
 use crate::visits::{with_begun, with_ended, with_undo};
 use rows::{Cell, Lsn, Row, Visit};
-use tables_model::{CellSet, Counts, Found, Whom};
+use tables_model::{CellSet, Counts, Whom};
 
 // A change in row n.
 pub fn after_change(t: Counts, scopes: &mut [u16], n: Lsn, v: Visit, c: Cell) -> Counts
@@ -27,14 +27,10 @@ fn after_undo(t: Counts, visits: &mut [u16], scopes: &mut [u16], h: Visit, befor
     requires { Ready t (length visits.old) (length scopes.old) }
     ensures { index t visits.new scopes.new ≡ after_undo (index t visits.old scopes.old) h.0 before.0 }
 {
-    let found = highest(scopes, t.used, Whom::One(h));
-    match found {
-        Found::At(i) => {
-            undo_at(scopes, i, before);
-            with_undo(t, visits, h);
-        }
-        Found::Nothing => with_undo(t, visits, h),
+    if let Some(i) = highest(scopes, t.used, Whom::One(h)) {
+        undo_at(scopes, i, before);
     }
+    with_undo(t, visits, h);
 }
 
 // A commit or an abort.

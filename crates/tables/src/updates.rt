@@ -3,17 +3,16 @@ ghost use Rattle.std.specs.Prelude.{◌≡◌, length, take, slice_index_or, sli
 ghost use Rattle.book.specs.Lists.{pad_to};
 ghost use Rattle.book.specs.Scopes.{unused as unused_scope};
 ghost use Rattle.book.specs.Limits.{scope_limit};
-ghost use Rattle.tables_model.specs.declared.Found.TheVariants.{At};
 ghost use Rattle.tables_model.specs.Entries.{Sized, Inside};
 ghost use Rattle.tables_model.specs.Layout.{entries as entries_of};
 ghost use Rattle.tables_model.specs.Table.{scopes_in, MayNote, Moves, ClosedRanks, scopes_changed, among, scopes_handed, scopes_ended, handed_on, moved_at, undone_at};
 
-use crate::entries::{clear, entry_at, put_entry};
+use crate::entries::{entry_at, put_entry};
 use crate::layout::ENTRY_WIDTH;
 use crate::lookup::find_growing;
 use crate::scopes::{grown, is_held, lowered, passed, started};
 use rows::{Cell, Lsn, Visit};
-use tables_model::{CellSet, Found};
+use tables_model::CellSet;
 
 // A change in row n grows the scope that may grow, or starts one behind the last. Returns the entries then in use.
 pub fn note_change(t: &mut [u16], used: usize, n: Lsn, v: Visit, c: Cell) -> usize
@@ -22,12 +21,12 @@ pub fn note_change(t: &mut [u16], used: usize, n: Lsn, v: Visit, c: Cell) -> usi
 {
     let found = find_growing(t, used, v, c);
     match found {
-        Found::At(i) => {
+        Some(i) => {
             let e = entry_at(t, i);
             put_entry(t, i, grown(e, n));
             used
         }
-        Found::Nothing => {
+        None => {
             put_entry(t, used, started(n, v, c));
             used + 1
         }
@@ -62,7 +61,7 @@ pub fn hand_over(t: &mut [u16], used: usize, g: Visit, r: Visit, cs: CellSet)
 // The last change of entry i is undone; `before` is the change before it in its scope, 0 for none.
 pub fn undo_at(t: &mut [u16], i: usize, before: Lsn)
     requires { Inside (length t.old) i }
-    ensures { entries_of t.new ≡ undone_at (At i) before.0 (entries_of t.old) }
+    ensures { entries_of t.new ≡ undone_at (Some i) before.0 (entries_of t.old) }
 {
     let e = entry_at(t, i);
     put_entry(t, i, lowered(e, before));
@@ -105,7 +104,7 @@ fn clear_from(t: &mut [u16], k: usize)
     ensures { entries_of t.new ≡ pad_to scope_limit unused_scope (take k (entries_of t.old)) }
 {
     let at = ENTRY_WIDTH * k;
-    clear(&mut t[at..]);
+    t[at..].fill(0);
 }
 
 // A commit or an abort: the entries that another visit holds close ranks, the rest is unused. Returns the entries then in use.

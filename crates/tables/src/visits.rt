@@ -185,14 +185,3 @@ pub fn with_ended(t: Counts, visits: &mut [u16], v: Visit, used: usize) -> Count
         used: used,
     }
 }
-
-// Before the first row.
-pub fn no_counts() -> Counts
-    ensures { result ≡ record { begun = 0; count = 0; used = 0 } }
-{
-    Counts {
-        begun: 0,
-        count: 0,
-        used: 0,
-    }
-}

@@ -8,6 +8,7 @@ use mathlib.Core.List.{List, [], ◌∷◌, reverse}
 use lib.ListN.{length, set, get_or, length-map}
 use lib.IntN.{ℤ}
 use borrow.Author.Tests.{eq-eqb}
+use Rattle.std.specs.Prelude.{is_some, Option, Some, None}
 use Rattle.book.specs.Lists.{In, keep, any, pad_to}
 use Rattle.book.specs.Limits.{scope_limit}
 use Rattle.book.specs.Rows.{change}
@@ -19,10 +20,8 @@ use Rattle.book.proofs.Invariant.{Inv}
 use Rattle.book.proofs.Scoped.{Scoped, NewScope, new-scope, continued}
 use Rattle.book.proofs.SameScope.{continues-if}
 use Rattle.book.proofs.Standing.{starts, in_use_lem}
-use Rattle.tables_model.specs.declared.Found.{Found}
-use Rattle.tables_model.specs.declared.Found.TheVariants.{At, Nothing}
 use Rattle.tables_model.specs.Table.{find_from, find, grows, grown, started, Scopes, changed_at, scopes_changed}
-use Rattle.tables_model.specs.Rows.{is_some, grows_by}
+use Rattle.tables_model.specs.Rows.{grows_by}
 use Rattle.tables_model.specs.Meaning.{tables_of, scope_table}
 use Rattle.tables_model.specs.Lookup.{index_of}
 use Rattle.tables_model.proofs.Reversed.{any-reverse, of_reverse, map-reverse}
@@ -32,9 +31,9 @@ use Rattle.tables_model.proofs.ScopesAfter.{starts_at, scopes-started, scopes-gr
 
 -- ── What the search finds ─────────────────────────────────────────────────────────────────────────────────────────────
 
-data Find (p : Scope → Bool) (i : ℕ) (ss : List Scope) (r : Found) : Type 0 where
-  none : any p ss ≡ false → r ≡ Nothing → Find p i ss r
-  some : (k : ℕ) → k < length ss → p (get_or ss k unused) ≡ true → any p ss ≡ true → r ≡ At (i + k) → Find p i ss r
+data Find (p : Scope → Bool) (i : ℕ) (ss : List Scope) (r : Option ℕ) : Type 0 where
+  none : any p ss ≡ false → r ≡ None → Find p i ss r
+  some : (k : ℕ) → k < length ss → p (get_or ss k unused) ≡ true → any p ss ≡ true → r ≡ Some (i + k) → Find p i ss r
 
 find-all : (p : Scope → Bool) (i : ℕ) (ss : List Scope) → Find p i ss (find_from p i ss)
 find-all p i [] = none refl refl
@@ -42,10 +41,10 @@ find-all p i (s ∷ ss) = go (p s) refl (find-all p (suc i) ss)
   where
     later : Find p (suc i) ss (find_from p (suc i) ss) → p s ≡ false → Find p i (s ∷ ss) (find_from p (suc i) ss)
     later (none a e) h = none (rw h a) e
-    later (some k lt q a e) h = let same : suc i + k ≡ i + suc k = omega arith in some (suc k) (omega arith) q (rw h a) (e ∙ ap At same)
+    later (some k lt q a e) h = let same : suc i + k ≡ i + suc k = omega arith in some (suc k) (omega arith) q (rw h a) (e ∙ ap Some same)
 
-    go : (t : Bool) → p s ≡ t → Find p (suc i) ss (find_from p (suc i) ss) → Find p i (s ∷ ss) (cond t (At i) (find_from p (suc i) ss))
-    go true h r = let same : i ≡ i + 0 = omega arith in some 0 (omega arith) h (rw h) (ap At same)
+    go : (t : Bool) → p s ≡ t → Find p (suc i) ss (find_from p (suc i) ss) → Find p i (s ∷ ss) (cond t (Some i) (find_from p (suc i) ss))
+    go true h r = let same : i ≡ i + 0 = omega arith in some 0 (omega arith) h (rw h) (ap Some same)
     go false h r = later r h
 
 -- ── The scope that grows ──────────────────────────────────────────────────────────────────────────────────────────────
@@ -79,7 +78,7 @@ module _ (l : Ledger) (v c : ℕ) (S : Scoped l.changes) (act : is_active l v �
   grows-by =
       ap is_some (find-is l (grows v c)) ∙ go (find-all (grows v c) 0 (reverse (scopes_of l))) ∙ any-grows ∙ sym (twice (any (continues v c) l.changes))
     where
-      go : {r : Found} → Find (grows v c) 0 (reverse (scopes_of l)) r → is_some r ≡ any (grows v c) (reverse (scopes_of l))
+      go : {r : Option ℕ} → Find (grows v c) 0 (reverse (scopes_of l)) r → is_some r ≡ any (grows v c) (reverse (scopes_of l))
       go (none a e) = ap is_some e ∙ sym a
       go (some k lt q a e) = ap is_some e ∙ sym a
 
@@ -128,16 +127,16 @@ module _ (l : Ledger) (v c : ℕ) (a : ℤ) (i : Inv l) (S : Scoped l.changes) (
       → scopes_changed (length (scopes_of l)) (suc l.rows) v c (scope_table l) ≡ scopes_record (after l (change v c a))
   unfolding scopes_changed
   scopes-changed room =
-      ap (λ (r : Found). changed_at (length (scopes_of l)) (suc l.rows) v c r (scope_table l)) (find-is l (grows v c)) ∙
+      ap (λ (r : Option ℕ). changed_at (length (scopes_of l)) (suc l.rows) v c r (scope_table l)) (find-is l (grows v c)) ∙
       go (find-all (grows v c) 0 (reverse (scopes_of l))) (new-scope l v c)
     where
-      go : {r : Found} → Find (grows v c) 0 (reverse (scopes_of l)) r → NewScope l v c (new_change l v c a).scope
+      go : {r : Option ℕ} → Find (grows v c) 0 (reverse (scopes_of l)) r → NewScope l v c (new_change l v c a).scope
           → changed_at (length (scopes_of l)) (suc l.rows) v c r (scope_table l) ≡ scopes_record (after l (change v c a))
       go (none f e) (NewScope.grows y m k q) = clash _ (any-in (continues v c) m k) (sym (any-grows l v c S act) ∙ f)
       go (none f e) (NewScope.starts k q) =
-          ap (λ (r : Found). changed_at (length (scopes_of l)) (suc l.rows) v c r (scope_table l)) e ∙
+          ap (λ (r : Option ℕ). changed_at (length (scopes_of l)) (suc l.rows) v c r (scope_table l)) e ∙
           table-started k (room (ap not (any_none (continues v c) l.changes k)))
       go (some k lt g f e) (NewScope.grows y m j q) =
           let same : 0 + k ≡ k = omega arith in
-          ap (λ (r : Found). changed_at (length (scopes_of l)) (suc l.rows) v c r (scope_table l)) (e ∙ ap At same) ∙ table-grown y m j q k lt g
+          ap (λ (r : Option ℕ). changed_at (length (scopes_of l)) (suc l.rows) v c r (scope_table l)) (e ∙ ap Some same) ∙ table-grown y m j q k lt g
       go (some k lt g f e) (NewScope.starts j q) = clash _ (sym (any-grows l v c S act) ∙ f) (any_none (continues v c) l.changes j)

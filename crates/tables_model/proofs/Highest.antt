@@ -8,6 +8,7 @@ use mathlib.Core.List.{List, [], ◌∷◌, reverse}
 use lib.ListN.{length, get_or, length-reverse}
 use lib.Dec.{ltb}
 use borrow.Author.Tests.{ltb-true, ltb-false}
+use Rattle.std.specs.Prelude.{Option, Some, None}
 use Rattle.book.specs.Lists.{In}
 use Rattle.book.specs.Limits.{scope_limit}
 use Rattle.book.specs.Ledger.{Change, Ledger}
@@ -19,8 +20,6 @@ use Rattle.book.proofs.Scoped.{Alike, Scoped}
 use Rattle.book.proofs.Top.{held-open, first-highest}
 use Rattle.book.proofs.Standing.{starts, stands, Stands, standing-open, open-standing}
 use Rattle.tables_model.specs.declared.Whom.{Whom}
-use Rattle.tables_model.specs.declared.Found.{Found}
-use Rattle.tables_model.specs.declared.Found.TheVariants.{At, Nothing}
 use Rattle.tables_model.specs.Table.{covers, highest_from, highest}
 use Rattle.tables_model.specs.Meaning.{scope_table}
 use Rattle.tables_model.proofs.Reversed.{of_reverse, in-reverse}
@@ -32,15 +31,15 @@ use Rattle.tables_model.proofs.Padded.{take-pad, get_or-in}
 abbrev Below : Whom → ℕ → List Scope → Type 0
 Below w n ss = (s : Scope) → In s ss → covers w s.holder ≡ true → s.last ≤ n
 
-data Search (w : Whom) (i best : ℕ) (found : Found) (ss : List Scope) (r : Found) : Type 0 where
+data Search (w : Whom) (i best : ℕ) (found : Option ℕ) (ss : List Scope) (r : Option ℕ) : Type 0 where
   none : Below w best ss → r ≡ found → Search w i best found ss r
   some : (k : ℕ) → k < length ss → covers w (get_or ss k unused).holder ≡ true → best < (get_or ss k unused).last → Below w (get_or ss k unused).last ss
-      → r ≡ At (i + k) → Search w i best found ss r
+      → r ≡ Some (i + k) → Search w i best found ss r
 
-search-all : (w : Whom) (i best : ℕ) (found : Found) (ss : List Scope) → Search w i best found ss (highest_from w i best found ss)
+search-all : (w : Whom) (i best : ℕ) (found : Option ℕ) (ss : List Scope) → Search w i best found ss (highest_from w i best found ss)
 search-all w i best found [] = none (λ s m. absurd (Memᴰ.not-nil m)) refl
 search-all w i best found (s ∷ ss) =
-    go (covers w s.holder) refl (ltb best s.last) refl (search-all w (suc i) s.last (At i) ss) (search-all w (suc i) best found ss)
+    go (covers w s.holder) refl (ltb best s.last) refl (search-all w (suc i) s.last (Some i) ss) (search-all w (suc i) best found ss)
   where
     -- an entry that is not better
     passes : Search w (suc i) best found ss (highest_from w (suc i) best found ss) → (covers w s.holder ≡ true → s.last ≤ best)
@@ -48,20 +47,20 @@ search-all w i best found (s ∷ ss) =
     passes (none b e) le = none (in-cons le b) e
     passes (some k lt c up b e) le =
         let same : suc i + k ≡ i + suc k = omega arith in
-        some (suc k) (omega arith) c up (in-cons (λ h. let f = le h in omega arith) b) (e ∙ ap At same)
+        some (suc k) (omega arith) c up (in-cons (λ h. let f = le h in omega arith) b) (e ∙ ap Some same)
 
     -- one that is
-    takes : Search w (suc i) s.last (At i) ss (highest_from w (suc i) s.last (At i) ss) → covers w s.holder ≡ true → best < s.last
-        → Search w i best found (s ∷ ss) (highest_from w (suc i) s.last (At i) ss)
-    takes (none b e) c lt = let same : i ≡ i + 0 = omega arith in some 0 (omega arith) c lt (in-cons (λ h. omega arith) b) (e ∙ ap At same)
+    takes : Search w (suc i) s.last (Some i) ss (highest_from w (suc i) s.last (Some i) ss) → covers w s.holder ≡ true → best < s.last
+        → Search w i best found (s ∷ ss) (highest_from w (suc i) s.last (Some i) ss)
+    takes (none b e) c lt = let same : i ≡ i + 0 = omega arith in some 0 (omega arith) c lt (in-cons (λ h. omega arith) b) (e ∙ ap Some same)
     takes (some k in-range d up b e) c lt =
         let same : suc i + k ≡ i + suc k = omega arith in
-        some (suc k) (omega arith) d (omega arith) (in-cons (λ h. omega arith) b) (e ∙ ap At same)
+        some (suc k) (omega arith) d (omega arith) (in-cons (λ h. omega arith) b) (e ∙ ap Some same)
 
     go : (c : Bool) → covers w s.holder ≡ c → (b : Bool) → ltb best s.last ≡ b
-        → Search w (suc i) s.last (At i) ss (highest_from w (suc i) s.last (At i) ss)
+        → Search w (suc i) s.last (Some i) ss (highest_from w (suc i) s.last (Some i) ss)
         → Search w (suc i) best found ss (highest_from w (suc i) best found ss)
-        → Search w i best found (s ∷ ss) (cond (c && b) (highest_from w (suc i) s.last (At i) ss) (highest_from w (suc i) best found ss))
+        → Search w i best found (s ∷ ss) (cond (c && b) (highest_from w (suc i) s.last (Some i) ss) (highest_from w (suc i) best found ss))
     go true p true q better rest = takes better p (ltb-true best s.last q)
     go true p false q better rest = passes rest (λ h. ltb-false best s.last q)
     go false p b q better rest = passes rest (λ h. clash _ h p)
@@ -105,15 +104,15 @@ module _ (l : Ledger) (w : Whom) (i : Inv l) (S : Scoped l.changes) where
       let up = b (entry_of l d.s) (in-reverse (entry_of l d.s) (scopes_of l) (Memᴰ.map (entry_of l) d.mem)) (ap (covers w) d.alike.holder ∙ h.2) in
       omega arith
 
-  highest-is : highest w (length (scopes_of l)) (scope_table l) ≡ highest_from w 0 0 Nothing (reverse (scopes_of l))
+  highest-is : highest w (length (scopes_of l)) (scope_table l) ≡ highest_from w 0 0 None (reverse (scopes_of l))
   unfolding highest scope_table
-  highest-is = ap (highest_from w 0 0 Nothing) (take-pad scope_limit unused (scopes_of l))
+  highest-is = ap (highest_from w 0 0 None) (take-pad scope_limit unused (scopes_of l))
 
   -- nothing is open
-  pub highest-none : open_held (covers w) l ≡ [] → highest w (length (scopes_of l)) (scope_table l) ≡ Nothing
-  highest-none e = highest-is ∙ go (search-all w 0 0 Nothing (reverse (scopes_of l)))
+  pub highest-none : open_held (covers w) l ≡ [] → highest w (length (scopes_of l)) (scope_table l) ≡ None
+  highest-none e = highest-is ∙ go (search-all w 0 0 None (reverse (scopes_of l)))
     where
-      go : {r : Found} → Search w 0 0 Nothing (reverse (scopes_of l)) r → r ≡ Nothing
+      go : {r : Option ℕ} → Search w 0 0 None (reverse (scopes_of l)) r → r ≡ None
       go (none b q) = q
       go (some k lt c up b q) =
           let le = all-below (get_or (reverse (scopes_of l)) k unused) (get_or-in unused (reverse (scopes_of l)) k lt) c in
@@ -122,7 +121,7 @@ module _ (l : Ledger) (w : Whom) (i : Inv l) (S : Scoped l.changes) where
   -- the entry found for x, the highest open change
   pub record TopEntry (x : Change) : Type 0 where
     pub at : ℕ
-    pub is : highest w (length (scopes_of l)) (scope_table l) ≡ At at
+    pub is : highest w (length (scopes_of l)) (scope_table l) ≡ Some at
     pub within : at < length (scopes_of l)
     -- the change that starts its scope
     pub s : Change
@@ -134,7 +133,7 @@ module _ (l : Ledger) (w : Whom) (i : Inv l) (S : Scoped l.changes) where
 
   pub highest-some : (x : Change) (xs : List Change) → open_held (covers w) l ≡ x ∷ xs → TopEntry x
   unfolding scopes_of
-  highest-some x xs e = go highest-is (search-all w 0 0 Nothing (reverse (scopes_of l)))
+  highest-some x xs e = go highest-is (search-all w 0 0 None (reverse (scopes_of l)))
     where
       mem : In x (open_held (covers w) l)
       mem = rw e here
@@ -142,7 +141,7 @@ module _ (l : Ledger) (w : Whom) (i : Inv l) (S : Scoped l.changes) where
       low : 1 ≤ x.row
       low = (i.good x (held-open (covers w) l x mem).0).low
 
-      go : {r : Found} → highest w (length (scopes_of l)) (scope_table l) ≡ r → Search w 0 0 Nothing (reverse (scopes_of l)) r → TopEntry x
+      go : {r : Option ℕ} → highest w (length (scopes_of l)) (scope_table l) ≡ r → Search w 0 0 None (reverse (scopes_of l)) r → TopEntry x
       go f (none b q) = let le = top_above 0 b x mem in let lo = low in absurd (omega arith)
       go f (some k lt c up b q) =
           let m = get_or-in unused (reverse (scopes_of l)) k lt in
@@ -156,7 +155,7 @@ module _ (l : Ledger) (w : Whom) (i : Inv l) (S : Scoped l.changes) where
           let same : 0 + k ≡ k = omega arith in
           record {
             at = k;
-            is = f ∙ q ∙ ap At same;
+            is = f ∙ q ∙ ap Some same;
             within = rw (length-reverse (scopes_of l)) at lt;
             s = s.0;
             mem = s.1;

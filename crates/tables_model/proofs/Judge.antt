@@ -9,6 +9,7 @@ use lib.ListN.{length}
 use lib.IntN.{ℤ}
 use lib.Dec.{eqb, leb, ltb}
 use borrow.Author.Tests.{eqb-true, eq-eqb, ne_eqb, le-leb}
+use Rattle.std.specs.Prelude.{Option}
 use Rattle.book.specs.Lists.{any, eq_z}
 use Rattle.book.specs.Limits.{row_limit, active_limit, scope_limit}
 use Rattle.book.specs.Rows.{Row, begin, change, hand_over, undo, commit, abort, hand_over_all, undone_by}
@@ -24,11 +25,9 @@ use Rattle.book.proofs.Counts.{scopes-count}
 use Rattle.book.proofs.Top.{held-open}
 use Rattle.book.proofs.Standing.{starts, in_use_lem}
 use Rattle.tables_model.specs.declared.Whom.TheVariants.{One}
-use Rattle.tables_model.specs.declared.Found.{Found}
-use Rattle.tables_model.specs.declared.Verdict.TheVariants.{Allowed, Unlawful, OverLimit}
 use Rattle.tables_model.specs.Visits.{is_listed, is_bearing}
 use Rattle.tables_model.specs.Table.{is_held, holds_cell, last_at}
-use Rattle.tables_model.specs.Rows.{room_by, highest_of, grows_by, holds_by, is_change, may_hand_over_by, lawful_by, within_limits_by, judge_by}
+use Rattle.tables_model.specs.Rows.{room_by, highest_of, grows_by, holds_by, is_change, may_hand_over_by, lawful_by, within_limits_by, verdict, judge_by}
 use Rattle.tables_model.specs.Meaning.{tables_of, scope_table}
 use Rattle.tables_model.specs.Lookup.{index_of}
 use Rattle.tables_model.proofs.Reversed.{any-reverse}
@@ -70,10 +69,10 @@ module _ (rs : List Row) (al : allowed_log rs ≡ true) where
   highest-of v = go (open_held (just v) (ledger rs)) refl
     where
       go : (xs : List Change) → open_held (just v) (ledger rs) ≡ xs → highest_of (index_of (ledger rs)) v ≡ first_row xs
-      go [] e = ap (λ (r : Found). last_at r (scope_table (ledger rs))) (nothing-open rs (One (record { 0 = v })) al e)
+      go [] e = ap (λ (r : Option ℕ). last_at r (scope_table (ledger rs))) (nothing-open rs (One (record { 0 = v })) al e)
       go (x ∷ xs) e =
           let k = highest-open rs (One (record { 0 = v })) al x xs e in
-          ap (λ (r : Found). last_at r (scope_table (ledger rs))) k.is ∙ k.last
+          ap (λ (r : Option ℕ). last_at r (scope_table (ledger rs))) k.is ∙ k.last
 
   -- an active visit without an undo row
   clean-by : (v : ℕ) → (is_listed (tables_of (ledger rs)) v && not (is_bearing (tables_of (ledger rs)) v))
@@ -192,15 +191,11 @@ module _ (rs : List Row) (al : allowed_log rs ≡ true) where
         go (abort v) f = lawful-abort named v
         go (hand_over_all g r) f = lawful-hand_over_all named g r
 
-    pub judge-by : judge_by (index_of (ledger rs)) (length rs) named r
-        ≡ cond (lawful (ledger rs) r) (cond (within_limits (ledger rs) r) Allowed OverLimit) Unlawful
+    pub judge-by : judge_by (index_of (ledger rs)) (length rs) named r ≡ verdict (lawful (ledger rs) r) (within_limits (ledger rs) r)
     unfolding judge_by
-    judge-by =
-        ap (λ (t : Bool). cond t (cond (within_limits_by (index_of (ledger rs)) (length rs) r) Allowed OverLimit) Unlawful) lawful-by ∙
-        go (lawful (ledger rs) r) refl
+    judge-by = ap (λ (t : Bool). verdict t (within_limits_by (index_of (ledger rs)) (length rs) r)) lawful-by ∙ go (lawful (ledger rs) r) refl
       where
         go : (t : Bool) → lawful (ledger rs) r ≡ t
-            → cond t (cond (within_limits_by (index_of (ledger rs)) (length rs) r) Allowed OverLimit) Unlawful
-            ≡ cond t (cond (within_limits (ledger rs) r) Allowed OverLimit) Unlawful
-        go true e = ap (λ (b : Bool). cond b Allowed OverLimit) (within_by r e)
+            → verdict t (within_limits_by (index_of (ledger rs)) (length rs) r) ≡ verdict t (within_limits (ledger rs) r)
+        go true e = ap (verdict true) (within_by r e)
         go false e = refl

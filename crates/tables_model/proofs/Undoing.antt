@@ -7,6 +7,7 @@ use mathlib.Core.Bool.{true}
 use mathlib.Core.List.{List, [], ◌∷◌, map, reverse}
 use lib.ListN.{length, set, get_or, length-map, length-reverse}
 use borrow.Author.Tests.{eq-eqb}
+use Rattle.std.specs.Prelude.{Option, Some, None}
 use Rattle.book.specs.Lists.{pad_to}
 use Rattle.book.specs.Limits.{scope_limit}
 use Rattle.book.specs.Rows.{Row, change}
@@ -22,8 +23,6 @@ use Rattle.book.proofs.Top.{Top, top-first}
 use Rattle.book.proofs.Standing.{standing-below}
 use Rattle.book.proofs.Recorded.{row_of}
 use Rattle.tables_model.specs.declared.Whom.{Whom}
-use Rattle.tables_model.specs.declared.Found.{Found}
-use Rattle.tables_model.specs.declared.Found.TheVariants.{At, Nothing}
 use Rattle.tables_model.specs.Visits.{with_undo}
 use Rattle.tables_model.specs.Table.{covers, highest, lowered, undone_at, scopes_undone}
 use Rattle.tables_model.specs.Meaning.{tables_of, scope_table}
@@ -42,7 +41,7 @@ used-is l = refl
 -- what the search in the table finds for x, the highest open change of the visits
 pub record HighestOpen (rs : List Row) (w : Whom) (x : Change) : Type 0 where
   pub at : ℕ
-  pub is : highest w (tables_of (ledger rs)).used (scope_table (ledger rs)) ≡ At at
+  pub is : highest w (tables_of (ledger rs)).used (scope_table (ledger rs)) ≡ Some at
   pub within : at < (tables_of (ledger rs)).used
   pub last : (get_or (scope_table (ledger rs)) at unused).last ≡ x.row
   pub holder : (get_or (scope_table (ledger rs)) at unused).holder ≡ x.holder
@@ -59,7 +58,7 @@ pub record HighestOpen (rs : List Row) (w : Whom) (x : Change) : Type 0 where
 
 module _ (rs : List Row) (w : Whom) (al : allowed_log rs ≡ true) where
   -- nothing is found where nothing is open
-  pub nothing-open : open_held (covers w) (ledger rs) ≡ [] → highest w (tables_of (ledger rs)).used (scope_table (ledger rs)) ≡ Nothing
+  pub nothing-open : open_held (covers w) (ledger rs) ≡ [] → highest w (tables_of (ledger rs)).used (scope_table (ledger rs)) ≡ None
   nothing-open e = rw (used-is (ledger rs)) (highest-none (ledger rs) w (inv-log rs al) (scoped-log rs) e)
 
   module _ (x : Change) (xs : List Change) (e : open_held (covers w) (ledger rs) ≡ x ∷ xs) where
@@ -130,7 +129,7 @@ module _ (rs : List Row) (w : Whom) (al : allowed_log rs ≡ true) where
     unfolding scopes_undone
     undo-step look agree =
         let k = highest-open in
-        ap (λ (r : Found). undone_at r (before_found look r (scope_table (ledger rs))) (scope_table (ledger rs))) k.is ∙ k.undone look agree
+        ap (λ (r : Option ℕ). undone_at r (before_found look r (scope_table (ledger rs))) (scope_table (ledger rs))) k.is ∙ k.undone look agree
 
     -- the entries in use are as many
     undo-used : length (scopes_of (after (ledger rs) (undo_of x))) ≡ length (scopes_of (ledger rs))

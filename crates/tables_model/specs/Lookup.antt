@@ -1,12 +1,10 @@
 -- What is looked up in the rows before an undo row, by the tables.
-use Rattle.std.specs.Prelude.{ℕ, zero, suc, Bool, false, cond, ◌&&◌, List, get_or, eqb, leb}
+use Rattle.std.specs.Prelude.{ℕ, zero, suc, Bool, false, cond, ◌&&◌, List, get_or, eqb, leb, Option, Some, None}
 use Rattle.book.specs.Rows.{Row, begin, change, hand_over, undo, commit, abort, hand_over_all}
 use Rattle.book.specs.Ledger.{Ledger}
 use Rattle.book.specs.Scopes.{Scope, unused}
 use Rattle.tables_model.specs.declared.Whom.{Whom}
 use Rattle.tables_model.specs.declared.Whom.TheVariants.{One}
-use Rattle.tables_model.specs.declared.Found.{Found}
-use Rattle.tables_model.specs.declared.Found.TheVariants.{At, Nothing}
 use Rattle.tables_model.specs.Meaning.{tables_of, scope_table}
 use Rattle.tables_model.specs.Table.{highest}
 use Rattle.tables_model.specs.Rows.{Index}
@@ -37,9 +35,9 @@ abbrev pub before_last : (ℕ → Row) → Scope → ℕ
 before_last look s = previous look s.maker s.cell s.first s.last
 
 -- that of the entry found, 0 for none
-abbrev pub before_found : (ℕ → Row) → Found → List Scope → ℕ
-before_found look (At i) ss = before_last look (get_or ss i unused)
-before_found look Nothing ss = 0
+abbrev pub before_found : (ℕ → Row) → Option ℕ → List Scope → ℕ
+before_found look (Some i) ss = before_last look (get_or ss i unused)
+before_found look None ss = 0
 
 -- that of the highest open change of these visits
 abbrev pub before_highest : (ℕ → Row) → Whom → Index → ℕ

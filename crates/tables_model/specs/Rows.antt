@@ -1,6 +1,6 @@
 -- A row judged by the tables, and what the tables are after it. Two things are looked up in the log by the caller: `named`, the row that an undo row
 -- names, and `before`, the change before that one in its scope.
-use Rattle.std.specs.Prelude.{ℕ, suc, ◌+◌, ◌-◌, ◌≡◌, Bool, true, false, cond, not, ◌&&◌, ◌||◌, List, ℤ, length, eqb, leb, ltb}
+use Rattle.std.specs.Prelude.{ℕ, suc, ◌+◌, ◌-◌, ◌≡◌, Bool, true, false, cond, not, ◌&&◌, ◌||◌, List, ℤ, length, eqb, leb, ltb, is_some, Result, Ok, Err}
 use Rattle.book.specs.Lists.{eq_z}
 use Rattle.book.specs.Limits.{row_limit, active_limit, scope_limit}
 use Rattle.book.specs.Rows.{Row, begin, change, hand_over, undo, commit, abort, hand_over_all}
@@ -9,10 +9,8 @@ use Rattle.book.specs.Scopes.{Scope}
 use Rattle.tables_model.specs.declared.Tables.{Tables}
 use Rattle.tables_model.specs.declared.Counts.{Counts}
 use Rattle.tables_model.specs.declared.Whom.TheVariants.{One}
-use Rattle.tables_model.specs.declared.Found.{Found}
-use Rattle.tables_model.specs.declared.Found.TheVariants.{At, Nothing}
-use Rattle.tables_model.specs.declared.Verdict.{Verdict}
-use Rattle.tables_model.specs.declared.Verdict.TheVariants.{Allowed, Unlawful, OverLimit}
+use Rattle.tables_model.specs.declared.Breach.{Breach}
+use Rattle.tables_model.specs.declared.Breach.TheVariants.{Rule, Limit}
 use Rattle.tables_model.specs.Layout.{flat_length, entries, visits_length}
 use Rattle.tables_model.specs.Visits.{tables_in, InRange, Begins, is_listed, is_bearing, with_begun, with_undo, with_ended, with_used}
 use Rattle.tables_model.specs.Table.{find, grows, holds_cell, highest, last_at, open_count, Scopes, scopes_changed, scopes_handed, scopes_ended, scopes_undone}
@@ -21,10 +19,6 @@ use Rattle.tables_model.specs.Table.{find, grows, holds_cell, highest, last_at, 
 pub record Index : Type 0 where
   pub tables : Tables
   pub scopes : List Scope
-
-abbrev pub is_some : Found → Bool
-is_some (At i) = true
-is_some Nothing = false
 
 -- 01: reserve
 unfoldable pub reserve_by : Index → ℕ
@@ -101,9 +95,14 @@ within_limits_by x rows (commit v) = true
 within_limits_by x rows (abort v) = true
 within_limits_by x rows (hand_over_all g r) = room_by x rows 1
 
-unfoldable pub judge_by : Index → ℕ → Row → Row → Verdict
-judge_by x rows named r =
-    let limits = cond (within_limits_by x rows r) Allowed OverLimit in cond (lawful_by x named r) limits Unlawful
+-- what is said of a row, by whether it is lawful and within limits: the rules come first
+abbrev pub verdict : Bool → Bool → Result (Unit {0}) Breach
+verdict true true = Ok tt
+verdict true false = Err Limit
+verdict false within = Err Rule
+
+unfoldable pub judge_by : Index → ℕ → Row → Row → Result (Unit {0}) Breach
+judge_by x rows named r = verdict (lawful_by x named r) (within_limits_by x rows r)
 
 -- ── The tables after an allowed row ───────────────────────────────────────────────────────────────────────────────────
 

@@ -1,5 +1,5 @@
 -- What the functions over the scope table compute, as equations on its 64 entries. `used` is the number of entries in use; the rest is not looked at.
-use Rattle.std.specs.Prelude.{ℕ, suc, ◌+◌, ◌-◌, ◌%◌, ◌≤◌, ◌<◌, ◌≡◌, Bool, true, false, cond, not, ◌&&◌, List, [], ◌∷◌, ◌++◌, map, length, take, drop, set, get_or, eqb, ltb}
+use Rattle.std.specs.Prelude.{ℕ, suc, ◌+◌, ◌-◌, ◌%◌, ◌≤◌, ◌<◌, ◌≡◌, Bool, true, false, cond, not, ◌&&◌, List, [], ◌∷◌, ◌++◌, map, length, take, drop, set, get_or, eqb, ltb, Option, Some, None}
 use Rattle.book.specs.Lists.{keep, any, pad_to}
 use Rattle.book.specs.Limits.{scope_limit}
 use Rattle.book.specs.Ledger.{only, every}
@@ -8,18 +8,16 @@ use Rattle.tables_model.specs.declared.Whom.{Whom}
 use Rattle.tables_model.specs.declared.Whom.TheVariants.{One, All}
 use Rattle.tables_model.specs.declared.CellSet.{CellSet}
 use Rattle.tables_model.specs.declared.CellSet.TheVariants.{Only, Every}
-use Rattle.tables_model.specs.declared.Found.{Found}
-use Rattle.tables_model.specs.declared.Found.TheVariants.{At, Nothing}
 use Rattle.tables_model.specs.Layout.{entries as entries_of, flat_length}
 
 -- ── Looking ───────────────────────────────────────────────────────────────────────────────────────────────────────────
 
 -- the first of the entries from number i on that passes the test
-abbrev pub find_from : (Scope → Bool) → ℕ → List Scope → Found
-find_from p i [] = Nothing
-find_from p i (s ∷ ss) = let rest = find_from p (suc i) ss in cond (p s) (At i) rest
+abbrev pub find_from : (Scope → Bool) → ℕ → List Scope → Option ℕ
+find_from p i [] = None
+find_from p i (s ∷ ss) = let rest = find_from p (suc i) ss in cond (p s) (Some i) rest
 
-unfoldable pub find : (Scope → Bool) → ℕ → List Scope → Found
+unfoldable pub find : (Scope → Bool) → ℕ → List Scope → Option ℕ
 find p used ss = find_from p 0 (take used ss)
 
 -- the maker changed the cell in this scope, and has not handed it over since
@@ -44,20 +42,20 @@ covers (One v) u = eqb u v.0
 covers All u = true
 
 -- the entry with the highest open change of these visits: the greatest `last`, none where all are 0. `best` and `found` are what was seen so far.
-abbrev pub highest_from : Whom → ℕ → ℕ → Found → List Scope → Found
+abbrev pub highest_from : Whom → ℕ → ℕ → Option ℕ → List Scope → Option ℕ
 highest_from w i best found [] = found
 highest_from w i best found (s ∷ ss) =
-    let better = highest_from w (suc i) s.last (At i) ss in
+    let better = highest_from w (suc i) s.last (Some i) ss in
     let rest = highest_from w (suc i) best found ss in
     cond (covers w s.holder && ltb best s.last) better rest
 
-unfoldable pub highest : Whom → ℕ → List Scope → Found
-highest w used ss = highest_from w 0 0 Nothing (take used ss)
+unfoldable pub highest : Whom → ℕ → List Scope → Option ℕ
+highest w used ss = highest_from w 0 0 None (take used ss)
 
 -- that row, 0 for none
-abbrev pub last_at : Found → List Scope → ℕ
-last_at (At i) ss = (get_or ss i unused).last
-last_at Nothing ss = 0
+abbrev pub last_at : Option ℕ → List Scope → ℕ
+last_at (Some i) ss = (get_or ss i unused).last
+last_at None ss = 0
 
 -- the open changes: what the entries count
 abbrev pub count_all : List Scope → ℕ
@@ -89,9 +87,9 @@ grown n s = record {
 abbrev pub started : ℕ → ℕ → ℕ → Scope
 started n v c = record { maker = v; holder = v; cell = c; first = n; last = n; handed = false; count = 1 }
 
-abbrev pub changed_at : ℕ → ℕ → ℕ → ℕ → Found → List Scope → Scopes
-changed_at used n v c (At i) ss = record { used = used; entries = set ss i (grown n (get_or ss i unused)) }
-changed_at used n v c Nothing ss = record { used = suc used; entries = set ss used (started n v c) }
+abbrev pub changed_at : ℕ → ℕ → ℕ → ℕ → Option ℕ → List Scope → Scopes
+changed_at used n v c (Some i) ss = record { used = used; entries = set ss i (grown n (get_or ss i unused)) }
+changed_at used n v c None ss = record { used = suc used; entries = set ss used (started n v c) }
 
 -- a change in row n: it grows the scope that may grow, or starts one behind the last
 unfoldable pub scopes_changed : ℕ → ℕ → ℕ → ℕ → List Scope → Scopes
@@ -126,9 +124,9 @@ lowered before s = record {
   count = s.count - 1;
 }
 
-abbrev pub undone_at : Found → ℕ → List Scope → List Scope
-undone_at (At i) before ss = set ss i (lowered before (get_or ss i unused))
-undone_at Nothing before ss = ss
+abbrev pub undone_at : Option ℕ → ℕ → List Scope → List Scope
+undone_at (Some i) before ss = set ss i (lowered before (get_or ss i unused))
+undone_at None before ss = ss
 
 -- an undo of the highest open change of the visits; `before` is the row before it in its scope, 0 for none. The entry stays, though it may be empty:
 -- by 01 it is in use until its holder ends.
@@ -142,15 +140,15 @@ abbrev pub scopes_in : ℕ → List ℕ → Scopes
 scopes_in used t = record { used = used; entries = entries_of t }
 
 -- the table has its length, and the entry found lies within it
-abbrev pub Reaches : ℕ → Found → Type 0
-Reaches size (At i) = (size ≡ flat_length) × (i < scope_limit)
-Reaches size Nothing = size ≡ flat_length
+abbrev pub Reaches : ℕ → Option ℕ → Type 0
+Reaches size (Some i) = (size ≡ flat_length) × (i < scope_limit)
+Reaches size None = size ≡ flat_length
 
 -- a change has a scope that may grow, or a vacant entry
 pub record MayNote (t : List ℕ) (used v c : ℕ) : Type 0 where
   pub long : length t ≡ flat_length
   pub within : used ≤ scope_limit
-  pub room : find (grows v c) used (entries_of t) ≡ Nothing → used < scope_limit
+  pub room : find (grows v c) used (entries_of t) ≡ None → used < scope_limit
 
 -- the entry's highest open change, 0 where these visits do not hold it
 abbrev pub last_by : Whom → Scope → ℕ

@@ -7,7 +7,7 @@ use rows::limits::ACTIVE_LIMIT;
 use rows::{Cell, Lsn, Visit};
 
 // An active visit. Later fields move with it: the array is compacted entry by entry.
-#[derive(Clone, Copy)]
+#[derive(Clone, Copy, Default)]
 pub struct Active {
     pub visit: Visit,
     pub bears: bool, // an undo row bears it
@@ -23,7 +23,7 @@ pub struct Tables {
 }
 
 // The same without the visits, which are lent beside it where they are worked on in place.
-#[derive(Clone, Copy)]
+#[derive(Clone, Copy, Default)]
 pub struct Counts {
     pub begun: u16,
     pub count: usize,
@@ -31,7 +31,7 @@ pub struct Counts {
 }
 
 // An entry of the scope table: changes of one cell by one maker that share a holder.
-#[derive(Clone, Copy)]
+#[derive(Clone, Copy, Default)]
 pub struct Scope {
     pub maker: Visit,
     pub holder: Visit,
@@ -56,17 +56,9 @@ pub enum CellSet {
     Every,
 }
 
-// An entry of the scope table, or none.
+// What the row rules say against a row whose bytes are well formed.
 #[derive(Clone, Copy)]
-pub enum Found {
-    At(usize),
-    Nothing,
-}
-
-// What the row rules say of a row whose bytes are well formed.
-#[derive(Clone, Copy)]
-pub enum Verdict {
-    Allowed,
-    Unlawful,
-    OverLimit,
+pub enum Breach {
+    Rule, // it lacks what it needs of visits, cells, holders or undo rows
+    Limit, // the sixteen visits, the scopes or the free rows have no room for it
 }

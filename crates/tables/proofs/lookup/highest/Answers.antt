@@ -1,5 +1,5 @@
 -- `tables::lookup::highest` meets its contract. The loop's invariant: the search of all entries in use gives what the search of those left gives, from the best one so far. Assumes nothing.
-use Rattle.std.proofs.Common.{◌-◌, sym, ◌∙◌, arith, le-ltb, lt-ltb, eq-eqb, ne_eqb}
+use Rattle.std.proofs.Common.{sym, ◌∙◌, arith, le-ltb, lt-ltb, eq-eqb, ne_eqb}
 use Rattle.tables_model.specs.Table.{highest}
 use Rattle.tables.proofs.Loops.{left_end}
 use Rattle.tables.proofs.Searches.{found_at, highest-next}

@@ -1,5 +1,5 @@
 -- `tables::lookup::holds_cell` meets its contract. The loop's invariant: an entry is among all in use if it is among those left. Assumes nothing.
-use Rattle.std.proofs.Common.{◌≡◌, ◌+◌, ◌-◌, ◌||◌, get_or, sym, ◌∙◌}
+use Rattle.std.proofs.Common.{◌≡◌, ◌+◌, ◌||◌, get_or, sym, ◌∙◌}
 use Rattle.book.specs.Scopes.{unused}
 use Rattle.book.specs.Lists.{any}
 use Rattle.tables_model.specs.Layout.{entries}

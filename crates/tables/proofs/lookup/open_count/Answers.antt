@@ -1,5 +1,5 @@
 -- `tables::lookup::open_count` meets its contract. The loop's invariant: the sum so far and the counts of the entries left are all counts, and each was of 16 bits. Assumes nothing.
-use Rattle.std.proofs.Common.{◌≡◌, ◌-◌, get_or, ◌∙◌, arith}
+use Rattle.std.proofs.Common.{◌≡◌, get_or, ◌∙◌, arith}
 use Rattle.book.specs.Scopes.{unused}
 use Rattle.tables_model.specs.Layout.{entries}
 use Rattle.tables_model.specs.Table.{count_all, open_count}

@@ -2,10 +2,6 @@
 use Rattle.tables_model.specs.Rows.{grows_by}
 use Rattle.tables.proofs.rules.grows_scope.Goals as goal
 
-pub returns-in-At : goal.returns-in-At
+pub returns : goal.returns
 unfolding grows_by
-returns-in-At c vs = rw (← c.find_growing-found.ensures, c.in-At.is)
-
-pub returns-in-Nothing : goal.returns-in-Nothing
-unfolding grows_by
-returns-in-Nothing c vs = rw (← c.find_growing-found.ensures, c.in-Nothing.is)
+returns c vs = rw (← c.find_growing.ensures) c.is_some.ensures

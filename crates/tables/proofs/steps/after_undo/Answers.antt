@@ -3,16 +3,17 @@ use Rattle.std.proofs.Common.{sym, ◌∙◌, arith}
 use Rattle.tables_model.specs.Table.{scopes_undone}
 use Rattle.tables.proofs.Searches.{highest-below}
 use Rattle.tables.proofs.steps.after_undo.Goals as goal
+use Rattle.tables.proofs.steps.after_undo.Goals.{in-Some, in_default}
 
 pub undo_at-requires : goal.undo_at-requires
 undo_at-requires c =
-    let e = sym c.highest-found.ensures ∙ c.in-At.is in
+    let e = sym c.highest.ensures ∙ c.in-Some.is in
     record { long = c.requires.long; below = omega (arith, c.requires.range.used, highest-below _ _ _ _ e) }
 
-pub returns-in-At : goal.returns-in-At
+pub returns : goal.returns
 unfolding scopes_undone
-returns-in-At c = rw (← c.highest-found.ensures, c.in-At.is, c.undo_at.ensures, c.with_undo.ensures)
-
-pub returns-in-Nothing : goal.returns-in-Nothing
-unfolding scopes_undone
-returns-in-Nothing c = rw (← c.highest-found.ensures, c.in-Nothing.is, c.with_undo-in-Nothing.ensures)
+returns c =
+    elim c.match-highest.branch [
+      | in-Some w ↦ rw (← c.highest.ensures, w.in-Some.is, w.scopes-is, w.undo_at.ensures, c.with_undo.ensures)
+      | in_default w ↦ rw (← c.highest.ensures, w.in_default.is, w.scopes-is, c.with_undo.ensures)
+    ]

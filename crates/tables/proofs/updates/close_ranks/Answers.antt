@@ -1,5 +1,5 @@
 -- `tables::updates::close_ranks` meets its contract. The loop's invariant: the entries kept, and those left that another visit holds, are all that another visit holds. Assumes nothing.
-use Rattle.std.proofs.Common.{◌-◌, ◌≤◌, length, sym, ap, ◌∙◌, arith, length-take-le}
+use Rattle.std.proofs.Common.{◌≤◌, length, sym, ap, ◌∙◌, arith, length-take-le}
 use Rattle.tables_model.specs.Table.{Scopes, scopes_in}
 use Rattle.tables_model.specs.Layout.{entries}
 use Rattle.tables.proofs.Ending.{held_by_other, Move, move}

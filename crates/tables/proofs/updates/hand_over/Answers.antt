@@ -1,5 +1,5 @@
 -- `tables::updates::hand_over` meets its contract. The loop's invariant: the entries passed are handed on, the others are as they were. Assumes nothing.
-use Rattle.std.proofs.Common.{◌≡◌, ◌-◌, ◌<◌, length, ◌∙◌, arith}
+use Rattle.std.proofs.Common.{◌≡◌, ◌<◌, length, ◌∙◌, arith}
 use Rattle.book.specs.Scopes.{unused}
 use Rattle.tables_model.specs.Table.{among, handed_on, scopes_handed}
 use Rattle.tables_model.specs.Layout.{entries}

@@ -1,5 +1,5 @@
 -- `tables::visits::close_ranks` meets its contract. The loop's invariant: the places kept, and those left without the visit, are all places without the visit. Assumes nothing.
-use Rattle.std.proofs.Common.{◌-◌, ◌≤◌, length, sym, ap, ◌∙◌, arith, length-take-le}
+use Rattle.std.proofs.Common.{◌≤◌, length, sym, ap, ◌∙◌, arith, length-take-le}
 use Rattle.tables_model.specs.Visits.{Places, places_in}
 use Rattle.tables_model.specs.Layout.{actives}
 use Rattle.tables.proofs.Ending.{stays, Turn, turn}

@@ -1,5 +1,5 @@
 -- `tables::visits::is_listed` meets its contract. The loop's invariant: the visit is among all places in use if it is among those left. Assumes nothing.
-use Rattle.std.proofs.Common.{◌≡◌, ◌+◌, ◌-◌, ◌≤◌, ◌||◌, length, sym, ◌∙◌}
+use Rattle.std.proofs.Common.{◌≡◌, ◌+◌, ◌≤◌, ◌||◌, length, sym, ◌∙◌}
 use Rattle.book.specs.Lists.{any}
 use Rattle.tables_model.specs.Visits.{is_listed, is_of}
 use Rattle.tables_model.specs.Layout.{actives}

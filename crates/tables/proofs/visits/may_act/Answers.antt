@@ -1,5 +1,5 @@
 -- `tables::visits::may_act` meets its contract. The loop's invariant: the visit is among all places in use if it was seen or is among those left, and
-use Rattle.std.proofs.Common.{◌≡◌, ◌+◌, ◌-◌, ◌≤◌, Bool, true, false, ◌&&◌, ◌||◌, ◌∷◌, length, take, refl, ◌∙◌, arith}
+use Rattle.std.proofs.Common.{◌≡◌, ◌+◌, ◌≤◌, Bool, true, false, ◌&&◌, ◌||◌, ◌∷◌, length, take, refl, ◌∙◌, arith}
 use Rattle.book.specs.Lists.{any}
 use Rattle.tables_model.specs.Visits.{is_listed, is_bearing, is_of, is_bearer}
 use Rattle.tables_model.specs.Layout.{actives}

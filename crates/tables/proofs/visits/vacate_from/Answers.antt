@@ -1,5 +1,5 @@
 -- `tables::visits::vacate_from` meets its contract. The loop's invariant: filled up from here, the places are what they are filled up from place k. Assumes nothing.
-use Rattle.std.proofs.Common.{◌-◌, ◌≤◌, length, sym, ◌∙◌, arith, length-take-le}
+use Rattle.std.proofs.Common.{◌≤◌, length, sym, ◌∙◌, arith, length-take-le}
 use Rattle.tables_model.specs.Layout.{actives}
 use Rattle.tables_model.specs.Meaning.{vacant}
 use Rattle.tables.proofs.Loops.{filled_next, filled-end}

@@ -1,5 +1,5 @@
 -- `tables::visits::with_undo` meets its contract. The loop's invariant: the places passed are marked, the others are places they were. Assumes nothing.
-use Rattle.std.proofs.Common.{◌≡◌, ◌-◌, ◌<◌, length, ◌∙◌, arith}
+use Rattle.std.proofs.Common.{◌≡◌, ◌<◌, length, ◌∙◌, arith}
 use Rattle.tables_model.specs.Visits.{with_undo, marked}
 use Rattle.tables_model.specs.Layout.{actives}
 use Rattle.tables_model.specs.Meaning.{vacant}
