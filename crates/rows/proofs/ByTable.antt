@@ -2,7 +2,7 @@
 use mathlib.Core.Path.{◌≡◌, refl, ap, sym, ◌∙◌}
 use mathlib.Core.Bool.{Bool, true, false}
 use mathlib.Core.List.{List, [], ◌∷◌}
-use Prim.Native.Nat.{ℕ, zero, suc, ◌+◌, ◌*◌, ◌≤◌, ◌<◌}
+use Prim.Native.Nat.{ℕ, zero, suc, ◌+◌, ◌≤◌, ◌<◌}
 use native.Mathlib.Omega.{arith}
 use native.Mathlib.Nat.{zero-add, add-zero, add-suc, suc-add, le_of_suc-le-suc, not-suc-le-zero}
 use lib.ListN.{length, get_or}
@@ -84,29 +84,23 @@ not-blank n (x ∷ xs) t =
 -- ── A row's bytes ─────────────────────────────────────────────────────────────────────────────────────────────────────
 
 module _ (n : ℕ) (b : List ℕ) (below : n < 65536) where
-  pub kind-zero : get_or b 0 0 ≡ 0 → is_row_bytes n b ≡ false
-  kind-zero e = is_false _ (λ t. let k = (by-table n b below t).from in omega arith)
-
-  pub kind-unknown : kind_limit < get_or b 0 0 → is_row_bytes n b ≡ false
-  kind-unknown h = is_false _ (λ t. let k = (by-table n b below t).to in omega arith)
+  pub known-kind : is_row_bytes n b ≡ true → (1 ≤ get_or b 0 0) × (get_or b 0 0 ≤ kind_limit)
+  known-kind t = let k = by-table n b below t in (k.from, k.to)
 
   pub not-as-table : as_table 16 0 (get_or b 0 0) b ≡ false → is_row_bytes n b ≡ false
   not-as-table e =
       is_false _ (λ t. clash _ (passes 16 0 (get_or b 0 0) b (λ j h. rw (zero-add j) ((by-table n b below t).zeros j h))) e)
 
-  pub own-number : length b ≡ 16 → ((i : ℕ) → get_or b i 0 < 256) → (get_or b 0 0 ≡ 0 → ⊥) → get_or b 0 0 ≤ kind_limit
-      → as_table 16 0 (get_or b 0 0) b ≡ true → eqb (get_or b 4 0 + 256 * get_or b 5 0) n ≡ is_row_bytes n b
-  own-number long byte from to e = go (eqb (get_or b 4 0 + 256 * get_or b 5 0) n) refl
+  pub own-number : length b ≡ 16 → ((i : ℕ) → get_or b i 0 < 256) → 1 ≤ get_or b 0 0 → get_or b 0 0 ≤ kind_limit
+      → as_table 16 0 (get_or b 0 0) b ≡ true → eqb (number 2 b 4) n ≡ is_row_bytes n b
+  own-number long byte from to e = go (eqb (number 2 b 4) n) refl
     where
-      own : number 2 b 4 ≡ get_or b 4 0 + 256 * get_or b 5 0
-      own = omega arith
-
-      go : (t : Bool) → eqb (get_or b 4 0 + 256 * get_or b 5 0) n ≡ t → t ≡ is_row_bytes n b
+      go : (t : Bool) → eqb (number 2 b 4) n ≡ t → t ≡ is_row_bytes n b
       go true q =
           sym (table-bytes n b long byte (record {
-            from = omega arith;
+            from = from;
             to = to;
-            own = own ∙ eqb-true _ n q;
+            own = eqb-true _ n q;
             zeros = λ j h z. rw (zero-add j) at (zeros 16 0 (get_or b 0 0) b e j h (rw (zero-add j) z));
           }))
-      go false q = sym (is_false _ (λ t. eqb-false _ n q (sym own ∙ (by-table n b below t).own)))
+      go false q = sym (is_false _ (λ t. eqb-false _ n q (by-table n b below t).own))

@@ -8,12 +8,8 @@ pub fn effect_of(row: Row) -> Effect
     ensures { result ≡ effect_of row }
 {
     match row {
-        Row::Begin(_) => Effect::Nothing,
         Row::Change(_, c, x) => Effect::Adds(c, x),
-        Row::HandOver(_, _, _) => Effect::Nothing,
         Row::Undo(_, c, _, x) => Effect::Subtracts(c, x),
-        Row::Commit(_) => Effect::Nothing,
-        Row::Abort(_) => Effect::Nothing,
-        Row::HandOverAll(_, _) => Effect::Nothing,
+        _ => Effect::Nothing,
     }
 }

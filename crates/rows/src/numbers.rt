@@ -28,14 +28,7 @@ pub fn read16(b: &[u8], at: usize) -> u16
     requires { at + 2 ≤ length b.now }
     ensures { result ≡ number 2 b.now at }
 {
-    word(b[at], b[at + 1])
-}
-
-// A byte as 32 bits.
-fn wide32(x: u8) -> u32
-    ensures { (result ≡ x) × (result < 256) }
-{
-    x as u32
+    u16::from_le_bytes([b[at], b[at + 1]])
 }
 
 // The number in four bytes.
@@ -43,8 +36,7 @@ pub fn read32(b: &[u8], at: usize) -> u32
     requires { at + 4 ≤ length b.now }
     ensures { result ≡ number 4 b.now at }
 {
-    let high = wide32(b[at + 2]) + 256 * wide32(b[at + 3]);
-    wide32(b[at]) + 256 * (wide32(b[at + 1]) + 256 * high)
+    u32::from_le_bytes([b[at], b[at + 1], b[at + 2], b[at + 3]])
 }
 
 // The 16 bits of a signed number.

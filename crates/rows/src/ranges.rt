@@ -16,7 +16,7 @@ const ROWS: u16 = ROW_LIMIT as u16;
 pub fn is_visit(v: Visit) -> bool
     ensures { result ≡ is_visit v.0 }
 {
-    if 1 <= v.0 { v.0 <= VISITS } else { false }
+    (1..=VISITS).contains(&v.0)
 }
 
 pub fn is_cell(c: Cell) -> bool
@@ -28,32 +28,19 @@ pub fn is_cell(c: Cell) -> bool
 pub fn is_row_number(n: Lsn) -> bool
     ensures { result ≡ is_row_number n.0 }
 {
-    if 1 <= n.0 { n.0 <= ROWS } else { false }
+    (1..=ROWS).contains(&n.0)
 }
 
 // Every field is within its range.
+#[tactic(auto, unfolding(book::specs::Rows::fits), using(crate::proofs::Fit::of_amounts))]
 pub fn in_range(row: Row) -> bool
     ensures { result ≡ fits (meant row) }
 {
     match row {
-        Row::Begin(v) => is_visit(v),
-        Row::Change(v, c, _) => { if is_visit(v) { is_cell(c) } else { false } }
-        Row::HandOver(g, r, c) => {
-            if is_visit(g) {
-                if is_visit(r) { is_cell(c) } else { false }
-            } else {
-                false
-            }
-        }
-        Row::Undo(h, c, n, _) => {
-            if is_visit(h) {
-                if is_cell(c) { is_row_number(n) } else { false }
-            } else {
-                false
-            }
-        }
-        Row::Commit(v) => is_visit(v),
-        Row::Abort(v) => is_visit(v),
-        Row::HandOverAll(g, r) => { if is_visit(g) { is_visit(r) } else { false } }
+        Row::Begin(v) | Row::Commit(v) | Row::Abort(v) => is_visit(v),
+        Row::Change(v, c, _) => is_visit(v) && is_cell(c),
+        Row::HandOver(g, r, c) => is_visit(g) && is_visit(r) && is_cell(c),
+        Row::Undo(h, c, n, _) => is_visit(h) && is_cell(c) && is_row_number(n),
+        Row::HandOverAll(g, r) => is_visit(g) && is_visit(r),
     }
 }

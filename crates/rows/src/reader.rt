@@ -1,13 +1,14 @@
 // The reader of a row: its 16 bytes, lent as a part of the log, as what they are. The tests of the bytes come first,
 // then those of the ranges.
 ghost use Rattle.std.specs.Prelude.{◌≡◌, length};
+ghost use Rattle.book.specs.Numbers.{number, signed};
 ghost use Rattle.book.specs.RowBytes.{is_row_bytes, pair, row_of};
 ghost use Rattle.book.specs.Limits.{row_length};
 ghost use Rattle.rows.specs.Meaning.{coded};
 ghost use Rattle.rows.specs.Reading.{is_blank, read_of};
 
 use crate::limits::KIND_LIMIT;
-use crate::numbers::{index, signed, word};
+use crate::numbers::read16;
 use crate::ranges::in_range;
 use crate::table::is_as_table;
 use crate::{Cell, Lsn, Read, Row, Visit};
@@ -25,18 +26,8 @@ pub fn has_row_bytes(b: &[u8], n: Lsn) -> bool
     requires { length b.now ≡ row_length }
     ensures { result ≡ is_row_bytes n.0 b.now }
 {
-    let kind = index(b[0]);
-    if kind == 0 {
-        return false;
-    }
-    if KIND_LIMIT < kind {
-        return false;
-    }
-    if is_as_table(b, kind) {
-        word(b[4], b[5]) == n.0
-    } else {
-        false
-    }
+    let kind = usize::from(b[0]);
+    (1..=KIND_LIMIT).contains(&kind) && is_as_table(b, kind) && read16(b, 4) == n.0
 }
 
 // The visit and the receiver, each by its low byte and its high one.
@@ -44,14 +35,22 @@ pub fn visit_in(b: &[u8]) -> Visit
     requires { length b.now ≡ row_length }
     ensures { result.0 ≡ pair b.now 1 10 }
 {
-    Visit(word(b[1], b[10]))
+    Visit(u16::from_le_bytes([b[1], b[10]]))
 }
 
 fn receiver_in(b: &[u8]) -> Visit
     requires { length b.now ≡ row_length }
     ensures { result.0 ≡ pair b.now 2 11 }
 {
-    Visit(word(b[2], b[11]))
+    Visit(u16::from_le_bytes([b[2], b[11]]))
+}
+
+// The change, in two's complement.
+fn change_in(b: &[u8]) -> i16
+    requires { length b.now ≡ row_length }
+    ensures { result ≡ signed 16 (number 2 b.now 8) }
+{
+    read16(b, 8).cast_signed()
 }
 
 // The row that the bytes would be, by their kind, whatever the others are.
@@ -64,9 +63,9 @@ pub fn row_in(b: &[u8]) -> Row
     match b[0] {
         0 => Row::Begin(Visit(0)),
         1 => Row::Begin(visit),
-        2 => Row::Change(visit, cell, signed(word(b[8], b[9]))),
+        2 => Row::Change(visit, cell, change_in(b)),
         3 => Row::HandOver(visit, receiver_in(b), cell),
-        4 => Row::Undo(visit, cell, Lsn(word(b[6], b[7])), signed(word(b[8], b[9]))),
+        4 => Row::Undo(visit, cell, Lsn(read16(b, 6)), change_in(b)),
         5 => Row::Commit(visit),
         6 => Row::Abort(visit),
         _ => Row::HandOverAll(visit, receiver_in(b)),
@@ -81,12 +80,13 @@ pub fn read_row(b: &[u8], n: Lsn) -> Read
     if has_row_bytes(b, n) {
         let row = row_in(b);
         if in_range(row) {
-            return Read::Valid(row);
+            Read::Valid(row)
+        } else {
+            Read::OutOfRange
         }
-        return Read::OutOfRange;
+    } else if is_blank(b) {
+        Read::Blank
+    } else {
+        Read::Malformed
     }
-    if is_blank(b) {
-        return Read::Blank;
-    }
-    Read::Malformed
 }

@@ -57,11 +57,9 @@ pub(crate) fn is_as_table(b: &[u8], kind: usize) -> bool
     ensures { result ≡ as_table row_length 0 kind b.now }
 {
     let line = line_of(kind);
-    let mut wrong: u8 = 0;
-    let mut i: usize = 0;
-    while i < ROW_LENGTH {
+    let mut wrong = 0;
+    for i in 0..ROW_LENGTH {
         wrong = gather_wrong(wrong, line[i], b[i]);
-        i += 1;
     }
     wrong == 0
 }
@@ -72,9 +70,7 @@ pub(crate) fn put_by_table(b: &mut [u8], kind: usize, f: &[u8; ROW_LENGTH])
     ensures { b.new ≡ fill row_length 0 kind f.now b.old }
 {
     let line = line_of(kind);
-    let mut i: usize = 0;
-    while i < ROW_LENGTH {
+    for i in 0..ROW_LENGTH {
         b[i] = byte_or_zero(line[i], f[i]);
-        i += 1;
     }
 }

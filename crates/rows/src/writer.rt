@@ -6,12 +6,11 @@ ghost use Rattle.rows.specs.Meaning.{meant};
 ghost use Rattle.rows.specs.Table.{fill};
 ghost use Rattle.rows.specs.Writing.{fields_of, field_bytes};
 
-use crate::numbers::{bits, high, low};
 use crate::table::put_by_table;
 use crate::{Lsn, Row};
 
 // A row's fields, with zeros for those that its kind lacks.
-#[derive(Clone, Copy)]
+#[derive(Clone, Copy, Default)]
 struct Fields {
     kind: u8,
     visit: u16,
@@ -24,62 +23,50 @@ struct Fields {
 fn parts_of(row: Row) -> Fields
     ensures { result ≡ fields_of row }
 {
+    let none = Fields::default();
     match row {
         Row::Begin(v) => Fields {
             kind: 1,
             visit: v.0,
-            receiver: 0,
-            cell: 0,
-            undone: 0,
-            change: 0,
+            ..none
         },
         Row::Change(v, c, x) => Fields {
             kind: 2,
             visit: v.0,
-            receiver: 0,
             cell: c.0,
-            undone: 0,
-            change: bits(x),
+            change: x.cast_unsigned(),
+            ..none
         },
         Row::HandOver(g, r, c) => Fields {
             kind: 3,
             visit: g.0,
             receiver: r.0,
             cell: c.0,
-            undone: 0,
-            change: 0,
+            ..none
         },
         Row::Undo(h, c, n, x) => Fields {
             kind: 4,
             visit: h.0,
-            receiver: 0,
             cell: c.0,
             undone: n.0,
-            change: bits(x),
+            change: x.cast_unsigned(),
+            ..none
         },
         Row::Commit(v) => Fields {
             kind: 5,
             visit: v.0,
-            receiver: 0,
-            cell: 0,
-            undone: 0,
-            change: 0,
+            ..none
         },
         Row::Abort(v) => Fields {
             kind: 6,
             visit: v.0,
-            receiver: 0,
-            cell: 0,
-            undone: 0,
-            change: 0,
+            ..none
         },
         Row::HandOverAll(g, r) => Fields {
             kind: 7,
             visit: g.0,
             receiver: r.0,
-            cell: 0,
-            undone: 0,
-            change: 0,
+            ..none
         },
     }
 }
@@ -89,25 +76,30 @@ fn put(b: &mut [u8], f: Fields, n: Lsn)
     requires { (f.kind ≤ kind_limit) × (length b.old ≡ row_length) }
     ensures { b.new ≡ fill row_length 0 f.kind (field_bytes f n.0) b.old }
 {
-    let a = [
+    let [visit_low, visit_high] = f.visit.to_le_bytes();
+    let [receiver_low, receiver_high] = f.receiver.to_le_bytes();
+    let [own_low, own_high] = n.0.to_le_bytes();
+    let [undone_low, undone_high] = f.undone.to_le_bytes();
+    let [change_low, change_high] = f.change.to_le_bytes();
+    let fields = [
         f.kind,
-        low(f.visit),
-        low(f.receiver),
+        visit_low,
+        receiver_low,
         f.cell,
-        low(n.0),
-        high(n.0),
-        low(f.undone),
-        high(f.undone),
-        low(f.change),
-        high(f.change),
-        high(f.visit),
-        high(f.receiver),
+        own_low,
+        own_high,
+        undone_low,
+        undone_high,
+        change_low,
+        change_high,
+        visit_high,
+        receiver_high,
         0,
         0,
         0,
         0,
     ];
-    put_by_table(b, f.kind as usize, &a);
+    put_by_table(b, usize::from(f.kind), &fields);
 }
 
 // Writes row n to b, a row's 16 bytes.

@@ -1,31 +1,34 @@
 -- `rows::reader::has_row_bytes` meets its contract. Assumes nothing.
-use mathlib.Core.Path.{sym, ◌∙◌}
-use native.Mathlib.Omega.{arith}
-use Rattle.rows.proofs.ByTable.{kind-zero, kind-unknown, not-as-table, own-number}
+use Rattle.std.proofs.Common.{arith, rules, ◌≤◌, ◌∙◌, sym}
+use Rattle.book.proofs.Lists.{is_false}
+use Rattle.rows.proofs.ByTable.{known-kind, not-as-table, own-number}
+use Rattle.rows.proofs.reader.has_row_bytes.Goals.{then-contains, else-contains}
 use Rattle.rows.proofs.reader.has_row_bytes.Goals as goal
-
-pub returns-then-kind-eq0 : goal.returns-then-kind-eq0
-returns-then-kind-eq0 c =
-    sym (kind-zero c.args.n.0 c.args.b.now (omega arith) (sym c.index-kind.ensures ∙ c.if-kind-eq0.true))
-
-pub returns-then-kind-gt-KIND_LIMIT : goal.returns-then-kind-gt-KIND_LIMIT
-returns-then-kind-gt-KIND_LIMIT c =
-    sym (kind-unknown c.args.n.0 c.args.b.now (omega arith) (rw c.index-kind.ensures at c.if-kind-gt-KIND_LIMIT.true))
 
 pub returns-then-is_as_table : goal.returns-then-is_as_table
 returns-then-is_as_table c =
-    let kind = c.index-kind.ensures in
-    rw c.word.ensures
-    (own-number
-    c.args.n.0
-    c.args.b.now
-    (omega arith)
-    c.requires
-    (λ i. (c.shared_slice_known-2-1.given i).fits)
-    (rw kind at c.if-kind-eq0.false)
-    (rw kind at c.if-kind-gt-KIND_LIMIT.false)
-    (rw kind at (sym c.is_as_table.ensures ∙ c.if-is_as_table.true)))
+    elim c.if-contains.branch [
+      | then-contains w ↦
+          let n = c.args.n.0 in
+          let b = c.args.b.now in
+          let kind = c.from-kind.ensures in
+          let from : 1 ≤ c.from-kind.result = search rules in
+          let to : c.from-kind.result ≤ 7 = search rules in
+          let table = sym w.is_as_table.ensures ∙ sym w.value-is ∙ c.if-is_as_table.true in
+          rw c.read16.ensures (own-number n b (omega arith) c.requires (λ i. (c.type_inv.b i).fits) (omega arith) (omega arith) (rw kind at table))
+      | else-contains w ↦ absurd (cc)
+    ]
 
 pub returns-else-is_as_table : goal.returns-else-is_as_table
 returns-else-is_as_table c =
-    sym (not-as-table c.args.n.0 c.args.b.now (omega arith) (rw c.index-kind.ensures at (sym c.is_as_table.ensures ∙ c.if-is_as_table.false)))
+    elim c.if-contains.branch [
+      | then-contains w ↦
+          let table = sym w.is_as_table.ensures ∙ sym w.value-is ∙ c.if-is_as_table.false in
+          c.if-is_as_table.false ∙ sym (not-as-table c.args.n.0 c.args.b.now (omega arith) (rw c.from-kind.ensures at table))
+      | else-contains w ↦
+          c.if-is_as_table.false ∙ sym (is_false _ (λ t.
+          let k = known-kind c.args.n.0 c.args.b.now (omega arith) t in
+          let from : 1 ≤ c.from-kind.result = omega arith in
+          let to : c.from-kind.result ≤ 7 = omega arith in
+          search rules))
+    ]
