@@ -1,48 +1,31 @@
 -- Eight bytes as a call: the fields that are to be zero for each code, and the call that they are. Assumes nothing.
 use mathlib.Core.Path.{◌≡◌, refl, ap, sym, ◌∙◌}
-use mathlib.Core.Logic.{◌⊎◌, ⊎_elim}
-use mathlib.Core.Bool.{Bool, true, false, ◌&&◌}
+use mathlib.Core.Bool.{Bool, true, false, ◌&&◌, and_assoc, and-true}
 use mathlib.Core.List.{List}
 use Prim.Native.Nat.{ℕ, zero, suc, ◌+◌, ◌/◌, ◌%◌, ◌≤◌, ◌<◌}
 use native.Mathlib.Omega.{arith}
-use native.Mathlib.Nat.{add-zero, zero-add}
 use lib.ListN.{length, get_or, take, drop}
 use lib.Seq.{drop-cons}
-use lib.IntN.{ℤ}
 use lib.Dec.{eqb}
 use borrow.Author.Tests.{eqb-true, eqb-false, eq-eqb, ne_eqb}
 use Rattle.book.specs.Lists.{eq_bytes}
-use Rattle.book.specs.Calls.{Call}
 use Rattle.book.specs.Numbers.{number, signed}
 use Rattle.book.proofs.Lists.{eqb-sym}
 use Rattle.book.proofs.Numbers.{two_bytes, two_back, two-below, bits-signed}
 use Rattle.book.specs.RowBytes.{pair}
-use Rattle.run_reader.specs.File.{call_fields, call_bytes, call_of_code, visit_at, receiver_at, call_at, is_call_at}
-use Rattle.run_reader.specs.Fields.{is_call}
+use Rattle.run_reader.specs.File.{call_fields, call_bytes, visit_at, receiver_at, call_at, is_call_at}
+use Rattle.run_reader.specs.Fields.{is_call, unused_zero}
 
--- ── The bytes that are to be zero ─────────────────────────────────────────────────────────────────────────────────────
+-- ── The fields that are to be zero ────────────────────────────────────────────────────────────────────────────────────
 
--- numbers are zero exactly if their sum is
-both_zero : (a b : ℕ) → (eqb 0 a && eqb b 0) ≡ eqb (b + a) 0
-both_zero a b = go (eqb 0 a) refl
+-- two numbers are the same exactly if their two bytes are
+two-alike : (x y : ℕ) → x < 65536 → y < 65536 → (eqb (x % 256) (y % 256) && (eqb (x / 256 % 256) (y / 256 % 256) && true)) ≡ eqb x y
+two-alike x y p q = go (eqb (x % 256) (y % 256)) (eqb (x / 256 % 256) (y / 256 % 256)) refl refl
   where
-    go : (t : Bool) → eqb 0 a ≡ t → (t && eqb b 0) ≡ eqb (b + a) 0
-    go true q = rw (← (eqb-true 0 a q), add-zero b)
-    go false q = sym (ne_eqb (b + a) 0 (λ e. eqb-false 0 a q (omega arith)))
-
-zero-last : (a : ℕ) → (eqb 0 a && true) ≡ eqb a 0
-zero-last a = both_zero a 0 ∙ ap (λ (n : ℕ). eqb n 0) (zero-add a)
-
--- a number is zero exactly if its two bytes are
-zero-bytes : (x : ℕ) → x < 65536 → (eqb 0 (x % 256) && (eqb 0 (x / 256 % 256) && true)) ≡ eqb x 0
-zero-bytes x below = rw (zero-last (x / 256 % 256), both_zero (x % 256) (x / 256 % 256)) (go (eqb x 0) refl)
-  where
-    go : (t : Bool) → eqb x 0 ≡ t → eqb (x / 256 % 256 + x % 256) 0 ≡ t
-    go true q = eq-eqb (x / 256 % 256 + x % 256) 0 (omega (arith, eqb-true x 0 q))
-    go false q = ne_eqb (x / 256 % 256 + x % 256) 0 (λ e. eqb-false x 0 q (omega (arith, two_bytes x below)))
-
-zero-pair : (x : ℕ) → x < 65536 → (eqb 0 (x % 256) && (eqb 0 (x / 256 % 256) && true)) ≡ eqb 0 x
-zero-pair x below = zero-bytes x below ∙ eqb-sym x 0
+    go : (l h : Bool) → eqb (x % 256) (y % 256) ≡ l → eqb (x / 256 % 256) (y / 256 % 256) ≡ h → (l && (h && true)) ≡ eqb x y
+    go true true e f = sym (eq-eqb x y (omega (arith, two_bytes x p, two_bytes y q, eqb-true _ _ e, eqb-true _ _ f)))
+    go true false e f = sym (ne_eqb x y (λ n. eqb-false _ _ f (ap (λ (m : ℕ). m / 256 % 256) n)))
+    go false h e f = sym (ne_eqb x y (λ n. eqb-false _ _ e (ap (λ (m : ℕ). m % 256) n)))
 
 -- the low bytes of visit and receiver, the cell, the change's two, and the high bytes: by fields
 by-fields : (v r c x y v' r' : Bool)
@@ -63,85 +46,46 @@ by-fields true true true true true true false = refl
 same : (n : ℕ) → eqb n n ≡ true
 same n = eq-eqb n n refl
 
--- by the code k: visit v, receiver r, cell or page c, and the change's bits x
-module _ (k v r c x : ℕ) (visit : v < 65536) (receiver : r < 65536) (below : x < 65536) where
-  abbrev change : ℤ
-  change = signed 16 x
+four : (a b c d : Bool) → (a && (b && (c && d))) ≡ (a && b && c && d)
+four false b c d = refl
+four true b c d = sym (and_assoc b c d)
 
-  -- the fields of two calls compared, of which the first has the bytes of `w`, `s`, `d` and `z` for those of visit, receiver, cell and change
-  abbrev compared : ℕ → ℕ → ℕ → ℕ → Bool
-  compared w s d z =
-      eqb (w % 256) (v % 256) && (eqb (s % 256) (r % 256) && (eqb d c && (eqb (z % 256) (x % 256) && (eqb (z / 256 % 256) (x / 256 % 256) &&
-      (eqb (w / 256 % 256) (v / 256 % 256) && (eqb (s / 256 % 256) (r / 256 % 256) && true))))))
-
-  -- by fields
-  abbrev grouped : ℕ → ℕ → ℕ → ℕ → Bool
-  grouped w s d z =
-      (eqb (w % 256) (v % 256) && (eqb (w / 256 % 256) (v / 256 % 256) && true)) && ((eqb (s % 256) (r % 256) && (eqb (s / 256 % 256) (r / 256 % 256) && true)) &&
-      (eqb d c && (eqb (z % 256) (x % 256) && (eqb (z / 256 % 256) (x / 256 % 256) && true))))
-
-  groups : (w s d z : ℕ) → compared w s d z ≡ grouped w s d z
-  groups w s d z =
+-- visit v, receiver r, cell or page c, and the change's bits x
+module _ (v r c x : ℕ) (visit : v < 65536) (receiver : r < 65536) (below : x < 65536) where
+  -- two calls compared by their bytes, of which the first has visit w, receiver s, cell d and the change's bits z
+  alike : (w s d z : ℕ) → w < 65536 → s < 65536 → z < 65536
+      → (eqb (w % 256) (v % 256) && (eqb (s % 256) (r % 256) && (eqb d c && (eqb (z % 256) (x % 256) && (eqb (z / 256 % 256) (x / 256 % 256) &&
+      (eqb (w / 256 % 256) (v / 256 % 256) && (eqb (s / 256 % 256) (r / 256 % 256) && true))))))) ≡ (eqb w v && (eqb s r && (eqb d c && eqb z x)))
+  alike w s d z hw hs hz =
       by-fields (eqb (w % 256) (v % 256)) (eqb (s % 256) (r % 256)) (eqb d c) (eqb (z % 256) (x % 256)) (eqb (z / 256 % 256) (x / 256 % 256))
-      (eqb (w / 256 % 256) (v / 256 % 256)) (eqb (s / 256 % 256) (r / 256 % 256))
+      (eqb (w / 256 % 256) (v / 256 % 256)) (eqb (s / 256 % 256) (r / 256 % 256)) ∙
+      rw (two-alike w v hw visit, two-alike s r hs receiver, two-alike z x hz below)
 
-  -- begin, force
-  none : compared 0 0 0 0 ≡ eqb (x + c + r + v) 0
-  none = groups 0 0 0 0 ∙
-      rw (zero-pair v visit, zero-pair r receiver, zero-bytes x below, both_zero c x, both_zero r (x + c), both_zero v (x + c + r))
+  none-used : (eqb 0 v && (eqb 0 r && (eqb 0 c && eqb 0 x))) ≡ (eqb v 0 && eqb r 0 && eqb c 0 && eqb x 0)
+  none-used = rw (eqb-sym 0 v, eqb-sym 0 r, eqb-sym 0 c, eqb-sym 0 x) (four (eqb v 0) (eqb r 0) (eqb c 0) (eqb x 0))
 
-  pub none-used : (k ≡ 1) ⊎ (k ≡ 7) → eqb (x + c + r + v) 0 ≡ is_call k v r c change
+  visit-used : (eqb v v && (eqb 0 r && (eqb 0 c && eqb 0 x))) ≡ (eqb r 0 && eqb c 0 && eqb x 0)
+  visit-used = rw (same v, eqb-sym 0 r, eqb-sym 0 c, eqb-sym 0 x) (sym (and_assoc (eqb r 0) (eqb c 0) (eqb x 0)))
+
+  cell-used : (eqb 0 v && (eqb 0 r && (eqb c c && eqb 0 x))) ≡ (eqb v 0 && eqb r 0 && eqb x 0)
+  cell-used = rw (same c, eqb-sym 0 v, eqb-sym 0 r, eqb-sym 0 x) (sym (and_assoc (eqb v 0) (eqb r 0) (eqb x 0)))
+
+  by-code : (k : ℕ) → is_call k v r c (signed 16 x) ≡ unused_zero k v r c x
   unfolding call_bytes
-  none-used h = ⊎_elim (λ e. rw e (rw (bits-signed 16 x below) (sym none))) (λ e. rw e (rw (bits-signed 16 x below) (sym none))) h
-
-  pub changes : k ≡ 2 → eqb r 0 ≡ is_call k v r c change
-  unfolding call_bytes
-  changes e =
-      rw (e, bits-signed 16 x below, same (v % 256), same c, same (x % 256), same (x / 256 % 256), same (v / 256 % 256)) (sym (zero-bytes r receiver))
-
-  pub hands-over : k ≡ 3 → eqb x 0 ≡ is_call k v r c change
-  unfolding call_bytes
-  hands-over e =
-      rw (e, bits-signed 16 x below, same (v % 256), same (r % 256), same c, same (v / 256 % 256), same (r / 256 % 256)) (sym (zero-bytes x below))
-
-  -- commit, abort
-  visit-alone : compared v 0 0 0 ≡ eqb (x + c + r) 0
-  visit-alone = groups v 0 0 0 ∙
-      rw (same (v % 256), same (v / 256 % 256), zero-pair r receiver, zero-bytes x below, both_zero c x, both_zero r (x + c))
-
-  pub ends : (k ≡ 4) ⊎ (k ≡ 5) → eqb (x + c + r) 0 ≡ is_call k v r c change
-  unfolding call_bytes
-  ends h = ⊎_elim (λ e. rw e (rw (bits-signed 16 x below) (sym visit-alone))) (λ e. rw e (rw (bits-signed 16 x below) (sym visit-alone))) h
-
-  -- flush, read
-  cell-alone : compared 0 0 c 0 ≡ eqb (x + r + v) 0
-  cell-alone = groups 0 0 c 0 ∙
-      rw (zero-pair v visit, zero-pair r receiver, same c, zero-bytes x below, both_zero r x, both_zero v (x + r))
-
-  pub cell-used : (k ≡ 6) ⊎ (k ≡ 8) → eqb (x + r + v) 0 ≡ is_call k v r c change
-  unfolding call_bytes
-  cell-used h = ⊎_elim (λ e. rw e (rw (bits-signed 16 x below) (sym cell-alone))) (λ e. rw e (rw (bits-signed 16 x below) (sym cell-alone))) h
-
-  pub hands-over-all : k ≡ 9 → eqb (x + c) 0 ≡ is_call k v r c change
-  unfolding call_bytes
-  hands-over-all e =
-      rw (e, bits-signed 16 x below, same (v % 256), same (r % 256), same (v / 256 % 256), same (r / 256 % 256), zero-bytes x below, both_zero c x)
-
--- any other code
-pub no_code : (k v r c : ℕ) (a : ℤ) → (k ≡ 1 → ⊥) → (k ≡ 2 → ⊥) → (k ≡ 3 → ⊥) → (k ≡ 4 → ⊥) → (k ≡ 5 → ⊥) → (k ≡ 6 → ⊥) → (k ≡ 7 → ⊥) → (k ≡ 8 → ⊥) → (k ≡ 9 → ⊥)
-    → false ≡ is_call k v r c a
-unfolding call_bytes
-no_code zero v r c a h1 h2 h3 h4 h5 h6 h7 h8 h9 = refl
-no_code (suc zero) v r c a h1 h2 h3 h4 h5 h6 h7 h8 h9 = absurd (h1 refl)
-no_code (suc (suc zero)) v r c a h1 h2 h3 h4 h5 h6 h7 h8 h9 = absurd (h2 refl)
-no_code (suc (suc (suc zero))) v r c a h1 h2 h3 h4 h5 h6 h7 h8 h9 = absurd (h3 refl)
-no_code (suc (suc (suc (suc zero)))) v r c a h1 h2 h3 h4 h5 h6 h7 h8 h9 = absurd (h4 refl)
-no_code (suc (suc (suc (suc (suc zero))))) v r c a h1 h2 h3 h4 h5 h6 h7 h8 h9 = absurd (h5 refl)
-no_code (suc (suc (suc (suc (suc (suc zero)))))) v r c a h1 h2 h3 h4 h5 h6 h7 h8 h9 = absurd (h6 refl)
-no_code (suc (suc (suc (suc (suc (suc (suc zero))))))) v r c a h1 h2 h3 h4 h5 h6 h7 h8 h9 = absurd (h7 refl)
-no_code (suc (suc (suc (suc (suc (suc (suc (suc zero)))))))) v r c a h1 h2 h3 h4 h5 h6 h7 h8 h9 = absurd (h8 refl)
-no_code (suc (suc (suc (suc (suc (suc (suc (suc (suc k))))))))) v r c a h1 h2 h3 h4 h5 h6 h7 h8 h9 =
-    rw (ne_eqb 9 (suc (suc (suc (suc (suc (suc (suc (suc (suc k))))))))) (λ e. h9 (sym e)))
+  by-code zero = refl
+  by-code (suc zero) = rw (bits-signed 16 x below) (alike 0 0 0 0 (omega arith) (omega arith) (omega arith) ∙ none-used)
+  by-code (suc (suc zero)) =
+      rw (bits-signed 16 x below) (alike v 0 c x visit (omega arith) below ∙ rw (same v, same c, same x, eqb-sym 0 r) (and-true (eqb r 0)))
+  by-code (suc (suc (suc zero))) = rw (bits-signed 16 x below) (alike v r c 0 visit receiver (omega arith) ∙ rw (same v, same r, same c) (eqb-sym 0 x))
+  by-code (suc (suc (suc (suc zero)))) = rw (bits-signed 16 x below) (alike v 0 0 0 visit (omega arith) (omega arith) ∙ visit-used)
+  by-code (suc (suc (suc (suc (suc zero))))) = rw (bits-signed 16 x below) (alike v 0 0 0 visit (omega arith) (omega arith) ∙ visit-used)
+  by-code (suc (suc (suc (suc (suc (suc zero)))))) = rw (bits-signed 16 x below) (alike 0 0 c 0 (omega arith) (omega arith) (omega arith) ∙ cell-used)
+  by-code (suc (suc (suc (suc (suc (suc (suc zero))))))) = rw (bits-signed 16 x below) (alike 0 0 0 0 (omega arith) (omega arith) (omega arith) ∙ none-used)
+  by-code (suc (suc (suc (suc (suc (suc (suc (suc zero)))))))) = rw (bits-signed 16 x below) (alike 0 0 c 0 (omega arith) (omega arith) (omega arith) ∙ cell-used)
+  by-code (suc (suc (suc (suc (suc (suc (suc (suc (suc zero))))))))) =
+      rw (bits-signed 16 x below) (alike v r 0 0 visit receiver (omega arith) ∙ rw (same v, same r, eqb-sym 0 c, eqb-sym 0 x) refl)
+  by-code (suc (suc (suc (suc (suc (suc (suc (suc (suc (suc k)))))))))) =
+      rw (ne_eqb 9 (suc (suc (suc (suc (suc (suc (suc (suc (suc (suc k)))))))))) (λ e. omega arith)) refl
 
 -- ── At a place of the file ────────────────────────────────────────────────────────────────────────────────────────────
 
@@ -196,35 +140,14 @@ eight-bytes bs at h byte =
       drop-cons bs i7 0 (omega arith),
     )
 
-pub call-at-place : (bs : List ℕ) (at : ℕ) → at + 8 ≤ length bs → ((i : ℕ) → get_or bs i 0 < 256) → (v r x : ℕ) → v ≡ visit_at bs at → r ≡ receiver_at bs at
-    → x ≡ number 2 bs (at + 4) → is_call (get_or bs at 0) v r (get_or bs (at + 3) 0) (signed 16 x) ≡ is_call_at bs at
+-- the fields of what is read at a place tell whether a call stands there
+pub call_here : (bs : List ℕ) (at : ℕ) → at + 8 ≤ length bs → ((i : ℕ) → get_or bs i 0 < 256)
+    → unused_zero (get_or bs at 0) (visit_at bs at) (receiver_at bs at) (get_or bs (at + 3) 0) (number 2 bs (at + 4)) ≡ is_call_at bs at
 unfolding is_call_at call_at
-call-at-place bs at h byte v r x ev er ex = rw (ev, er, ex) (ap (eq_bytes (call_bytes (call_at bs at))) (eight-bytes bs at h byte))
-
--- ── The call of a code ────────────────────────────────────────────────────────────────────────────────────────────────
-
--- the call of code k with the fields that the bytes hold
-abbrev call_as : ℕ → List ℕ → ℕ → Call
-call_as k bs at = call_of_code k (visit_at bs at) (receiver_at bs at) (get_or bs (at + 3) 0) (signed 16 (number 2 bs (at + 4)))
-
-pub of_code : (bs : List ℕ) (at k : ℕ) → get_or bs at 0 ≡ k → call_as k bs at ≡ call_at bs at
-unfolding call_at
-of_code bs at k e = rw e
-
-rest : (k v r c : ℕ) (a : ℤ) → (k ≡ 0 → ⊥) → (k ≡ 1 → ⊥) → (k ≡ 2 → ⊥) → (k ≡ 3 → ⊥) → (k ≡ 4 → ⊥) → (k ≡ 5 → ⊥) → (k ≡ 6 → ⊥) → (k ≡ 7 → ⊥)
-    → (k ≡ 8 → ⊥) → Call.hand_over_all v r ≡ call_of_code k v r c a
-rest zero v r c a h0 h1 h2 h3 h4 h5 h6 h7 h8 = absurd (h0 refl)
-rest (suc zero) v r c a h0 h1 h2 h3 h4 h5 h6 h7 h8 = absurd (h1 refl)
-rest (suc (suc zero)) v r c a h0 h1 h2 h3 h4 h5 h6 h7 h8 = absurd (h2 refl)
-rest (suc (suc (suc zero))) v r c a h0 h1 h2 h3 h4 h5 h6 h7 h8 = absurd (h3 refl)
-rest (suc (suc (suc (suc zero)))) v r c a h0 h1 h2 h3 h4 h5 h6 h7 h8 = absurd (h4 refl)
-rest (suc (suc (suc (suc (suc zero))))) v r c a h0 h1 h2 h3 h4 h5 h6 h7 h8 = absurd (h5 refl)
-rest (suc (suc (suc (suc (suc (suc zero)))))) v r c a h0 h1 h2 h3 h4 h5 h6 h7 h8 = absurd (h6 refl)
-rest (suc (suc (suc (suc (suc (suc (suc zero))))))) v r c a h0 h1 h2 h3 h4 h5 h6 h7 h8 = absurd (h7 refl)
-rest (suc (suc (suc (suc (suc (suc (suc (suc zero)))))))) v r c a h0 h1 h2 h3 h4 h5 h6 h7 h8 = absurd (h8 refl)
-rest (suc (suc (suc (suc (suc (suc (suc (suc (suc k))))))))) v r c a h0 h1 h2 h3 h4 h5 h6 h7 h8 = refl
-
-pub of-rest : (bs : List ℕ) (at : ℕ) → let k = get_or bs at 0 in
-    (k ≡ 0 → ⊥) → (k ≡ 1 → ⊥) → (k ≡ 2 → ⊥) → (k ≡ 3 → ⊥) → (k ≡ 4 → ⊥) → (k ≡ 5 → ⊥) → (k ≡ 6 → ⊥) → (k ≡ 7 → ⊥)
-    → (k ≡ 8 → ⊥) → Call.hand_over_all (visit_at bs at) (receiver_at bs at) ≡ call_at bs at
-of-rest bs at h0 h1 h2 h3 h4 h5 h6 h7 h8 = rest (get_or bs at 0) _ _ _ _ h0 h1 h2 h3 h4 h5 h6 h7 h8 ∙ of_code bs at (get_or bs at 0) refl
+call_here bs at h byte =
+    sym (by-code (visit_at bs at) (receiver_at bs at) (get_or bs (at + 3) 0) (number 2 bs (at + 4)) (word (at + 1) (at + 6)) (word (at + 2) (at + 7))
+    (let k = byte (at + 4) in let l = byte (suc (at + 4)) in omega arith) (get_or bs at 0)) ∙
+    ap (eq_bytes (call_bytes (call_at bs at))) (eight-bytes bs at h byte)
+  where
+    word : (i j : ℕ) → pair bs i j < 65536
+    word i j = let k = byte i in let l = byte j in omega arith

@@ -6,7 +6,7 @@ use Prim.Native.Nat.{ℕ, zero, suc, ◌+◌, ◌*◌, ◌≤◌, ◌<◌}
 use native.Mathlib.Omega.{arith}
 use lib.ListN.{length, get_or}
 use lib.Dec.{eqb, leb}
-use borrow.Author.Tests.{eqb-true, leb-true, le-leb}
+use borrow.Author.Tests.{eqb-true, leb-true}
 use Rattle.book.proofs.Lists.{and_l, and_r}
 use Rattle.run_reader.specs.File.{Asked, session_entry_at, start_at, calls_at, calls_from, are_calls, body_end, are_bodies, is_run_file, sessions_from, sessions_in}
 
@@ -36,14 +36,6 @@ run-file bs e =
       bodies = search (and_l, and_r);
     }
 
--- once the sizes are right, the bodies decide
-pub by-bodies : (bs : List ℕ) → length bs ≤ 4096 → 1 ≤ get_or bs 0 0 → get_or bs 0 0 ≤ 32 → session_entry_at (get_or bs 0 0) ≤ length bs
-    → are_bodies (get_or bs 0 0) 0 (session_entry_at (get_or bs 0 0)) bs ≡ is_run_file bs
-unfolding is_run_file
-by-bodies bs short some few entries =
-    let s = get_or bs 0 0 in
-    rw (le-leb (length bs) 4096 short, le-leb 1 s some, le-leb s 32 few, le-leb (session_entry_at s) (length bs) entries)
-
 -- so `fuse_at` and `calls_at` may read it
 pub entry-within : (bs : List ℕ) → RunFile bs → (i : ℕ) → i < get_or bs 0 0 → session_entry_at i + 8 ≤ length bs
 entry-within bs f i h = omega arith
@@ -68,7 +60,6 @@ next-body n i at bs e =
       others = search (and_l, and_r);
     }
 
--- so `call_at` may read call j
 -- ── Lines ─────────────────────────────────────────────────────────────────────────────────────────────────────────────
 
 -- a line for each opening and each call

@@ -1,15 +1,15 @@
 // The reader of run files (document 01, "The run file"): which bytes are one, and the entries and calls in it.
 // Lengths are tested before what lies in them, so no byte beyond the end is read, whatever the file.
-ghost use Rattle.std.specs.Prelude.{◌≡◌, ◌+◌, ◌*◌, ◌≤◌, length};
-ghost use Rattle.book.specs.Numbers.{signed as signed_of};
+ghost use Rattle.std.specs.Prelude.{◌≡◌, ◌+◌, ◌*◌, ◌≤◌, length, get_or};
+ghost use Rattle.book.specs.Numbers.{number, signed};
 ghost use Rattle.state.specs.World.{allowance};
 ghost use Rattle.state.specs.Requests.{call_of};
-ghost use Rattle.run_reader.specs.Fields.{is_call};
-ghost use Rattle.run_reader.specs.File.{entry_length, call_length, visit_at, receiver_at, call_at, is_call_at, are_calls, session_entry_at, fuse_at, start_at, calls_at, are_bodies, is_run_file};
+ghost use Rattle.run_reader.specs.Fields.{unused_zero};
+ghost use Rattle.run_reader.specs.File.{entry_length, call_length, call_of_code, visit_at, receiver_at, call_at, is_call_at, are_calls, session_entry_at, fuse_at, start_at, calls_at, are_bodies, is_run_file};
 
-use rows::numbers::{index, read16, read32, signed, word};
+use rows::numbers::{read16, read32};
 use rows::{Cell, Visit};
-use state::ram::{Fuse, fuse_of_number};
+use state::ram::Fuse;
 use state::requests::Request;
 
 // Sizes in bytes.
@@ -26,7 +26,7 @@ pub fn fuse_at(file: &[u8], i: usize) -> Fuse
     requires { session_entry_at i + entry_length ≤ length file.now }
     ensures { allowance result ≡ fuse_at file.now i }
 {
-    fuse_of_number(read32(file, 1 + ENTRY_LENGTH * i))
+    Fuse::from(read32(file, 1 + ENTRY_LENGTH * i))
 }
 
 // Where entry i says that its body starts.
@@ -34,7 +34,7 @@ fn start_at(file: &[u8], i: usize) -> usize
     requires { session_entry_at i + entry_length ≤ length file.now }
     ensures { result ≡ start_at file.now i }
 {
-    read16(file, 1 + ENTRY_LENGTH * i + 4) as usize
+    usize::from(read16(file, 1 + ENTRY_LENGTH * i + 4))
 }
 
 // The number of calls of entry i.
@@ -42,93 +42,99 @@ pub fn calls_at(file: &[u8], i: usize) -> usize
     requires { session_entry_at i + entry_length ≤ length file.now }
     ensures { result ≡ calls_at file.now i }
 {
-    read16(file, 1 + ENTRY_LENGTH * i + 6) as usize
+    usize::from(read16(file, 1 + ENTRY_LENGTH * i + 6))
 }
 
-// Visit and receiver of the call at `at`, each by its low byte and its high one.
-fn visit_at(file: &[u8], at: usize) -> u16
-    requires { at + call_length ≤ length file.now }
-    ensures { result ≡ visit_at file.now at }
-{
-    word(file[at + 1], file[at + 6])
+// The fields of a call's 8 bytes. Visit and receiver have their high bytes last.
+#[derive(Clone, Copy)]
+struct Fields {
+    code: u8,
+    visit: u16,
+    receiver: u16,
+    cell: u8, // or the page
+    change: u16,
 }
 
-fn receiver_at(file: &[u8], at: usize) -> u16
-    requires { at + call_length ≤ length file.now }
-    ensures { result ≡ receiver_at file.now at }
-{
-    word(file[at + 2], file[at + 7])
+impl Fields {
+    fn read(file: &[u8], at: usize) -> Fields
+        requires { at + call_length ≤ length file.now }
+        ensures code { result.code ≡ get_or file.now at 0 }
+        ensures visit { result.visit ≡ visit_at file.now at }
+        ensures receiver { result.receiver ≡ receiver_at file.now at }
+        ensures cell { result.cell ≡ get_or file.now (at + 3) 0 }
+        ensures change { result.change ≡ number 2 file.now (at + 4) }
+    {
+        Fields {
+            code: file[at],
+            visit: u16::from_le_bytes([file[at + 1], file[at + 6]]),
+            receiver: u16::from_le_bytes([file[at + 2], file[at + 7]]),
+            cell: file[at + 3],
+            change: read16(file, at + 4),
+        }
+    }
+
+    // The call that the fields would be, by their code, whatever the others are.
+    fn request(self) -> Request
+        ensures { call_of result ≡ call_of_code self.code self.visit self.receiver self.cell (signed 16 self.change) }
+    {
+        let visit = Visit(self.visit);
+        let receiver = Visit(self.receiver);
+        let cell = Cell(self.cell);
+        match self.code {
+            0 | 1 => Request::Begin,
+            2 => Request::Change(visit, cell, self.change.cast_signed()),
+            3 => Request::HandOver(visit, receiver, cell),
+            4 => Request::Commit(visit),
+            5 => Request::Abort(visit),
+            6 => Request::Flush(self.cell),
+            7 => Request::Force,
+            8 => Request::Read(cell),
+            _ => Request::HandOverAll(visit, receiver),
+        }
+    }
+
+    // They are those of a call: a known code, and zero where the code does not use a field.
+    fn is_call(self) -> bool
+        ensures { result ≡ unused_zero self.code self.visit self.receiver self.cell self.change }
+    {
+        match self.code {
+            1 | 7 => self.visit == 0 && self.receiver == 0 && self.cell == 0 && self.change == 0,
+            2 => self.receiver == 0,
+            3 => self.change == 0,
+            4 | 5 => self.receiver == 0 && self.cell == 0 && self.change == 0,
+            6 | 8 => self.visit == 0 && self.receiver == 0 && self.change == 0,
+            9 => self.cell == 0 && self.change == 0,
+            _ => false,
+        }
+    }
 }
 
-// The call that the bytes from `at` on would be, by their code, whatever the others are.
+// The call that the bytes from `at` on would be, by their code.
+#[tactic(auto, unfolding(crate::specs::File::call_at))]
 pub fn call_at(file: &[u8], at: usize) -> Request
     requires { at + call_length ≤ length file.now }
     ensures { call_of result ≡ call_at file.now at }
 {
-    let visit = Visit(visit_at(file, at));
-    let cell = Cell(file[at + 3]);
-    match file[at] {
-        0 => Request::Begin,
-        1 => Request::Begin,
-        2 => Request::Change(visit, cell, signed(read16(file, at + 4))),
-        3 => Request::HandOver(visit, Visit(receiver_at(file, at)), cell),
-        4 => Request::Commit(visit),
-        5 => Request::Abort(visit),
-        6 => Request::Flush(file[at + 3]),
-        7 => Request::Force,
-        8 => Request::Read(cell),
-        _ => Request::HandOverAll(visit, Visit(receiver_at(file, at))),
-    }
-}
-
-// The fields of a call's bytes are those of a call: a known code, and the fields that it does not use are zero, so that their sum is.
-fn is_call(code: u8, visit: u16, receiver: u16, cell: u8, change: u16) -> bool
-    ensures { result ≡ is_call code visit receiver cell (signed_of 16 change) }
-{
-    let n = change as u32;
-    let c = cell as u32;
-    let r = receiver as u32;
-    let v = visit as u32;
-    match code {
-        1 => n + c + r + v == 0,
-        2 => r == 0,
-        3 => n == 0,
-        4 => n + c + r == 0,
-        5 => n + c + r == 0,
-        6 => n + r + v == 0,
-        7 => n + c + r + v == 0,
-        8 => n + r + v == 0,
-        9 => n + c == 0,
-        _ => false,
-    }
+    Fields::read(file, at).request()
 }
 
 // The bytes from `at` on are a call.
+#[tactic(auto, using(crate::proofs::CallBytes::call_here))]
 fn is_call_at(file: &[u8], at: usize) -> bool
     requires { at + call_length ≤ length file.now }
     ensures { result ≡ is_call_at file.now at }
 {
-    is_call(
-        file[at],
-        visit_at(file, at),
-        receiver_at(file, at),
-        file[at + 3],
-        read16(file, at + 4),
-    )
+    Fields::read(file, at).is_call()
 }
 
 // n calls stand from `at` on.
+#[tactic(auto, using(crate::proofs::Bodies::calls_step))]
 fn are_calls(file: &[u8], at: usize, n: usize) -> bool
     requires { at + call_length * n ≤ length file.now }
     ensures { result ≡ are_calls n file.now at }
 {
-    let mut here = at;
-    let mut left = n;
-    while 0 < left {
-        if is_call_at(file, here) {
-            here += CALL_LENGTH;
-            left -= 1;
-        } else {
+    for i in 0..n {
+        if !is_call_at(file, at + CALL_LENGTH * i) {
             return false;
         }
     }
@@ -136,50 +142,36 @@ fn are_calls(file: &[u8], at: usize, n: usize) -> bool
 }
 
 // The bodies of the entries stand from the end of the entries on, without gaps, in order, to the end of the file.
+#[tactic(auto, using(crate::proofs::Bodies::bodies_step))]
 fn are_bodies(file: &[u8], sessions: usize) -> bool
     requires { session_entry_at sessions ≤ length file.now }
     ensures { result ≡ are_bodies sessions 0 (session_entry_at sessions) file.now }
 {
     let mut at = 1 + ENTRY_LENGTH * sessions;
-    let mut i: usize = 0;
-    while i < sessions {
+    for i in 0..sessions {
         if start_at(file, i) != at {
             return false;
         }
         let n = calls_at(file, i);
-        if (file.len() - at) / CALL_LENGTH < n {
+        if (file.len() - at) / CALL_LENGTH < n || !are_calls(file, at, n) {
             return false;
         }
-        if are_calls(file, at, n) {
-            at += CALL_LENGTH * n;
-            i += 1;
-        } else {
-            return false;
-        }
+        at += CALL_LENGTH * n;
     }
     at == file.len()
 }
 
 // The bytes are a run file.
+#[tactic(auto, unfolding(crate::specs::File::is_run_file))]
 pub fn is_run_file(file: &[u8]) -> bool
     ensures { result ≡ is_run_file file.now }
 {
-    let length = file.len();
-    if FILE_LIMIT < length {
+    let Some(&first) = file.first() else {
         return false;
-    }
-    if length == 0 {
-        return false;
-    }
-    let sessions = index(file[0]);
-    if sessions == 0 {
-        return false;
-    }
-    if SESSION_LIMIT < sessions {
-        return false;
-    }
-    if length < 1 + ENTRY_LENGTH * sessions {
-        return false;
-    }
-    are_bodies(file, sessions)
+    };
+    let sessions = usize::from(first);
+    file.len() <= FILE_LIMIT
+        && (1..=SESSION_LIMIT).contains(&sessions)
+        && 1 + ENTRY_LENGTH * sessions <= file.len()
+        && are_bodies(file, sessions)
 }

@@ -6,7 +6,4 @@ use Rattle.run_reader.specs.File.{session_entry_at, are_bodies}
 use Rattle.run_reader.proofs.file.are_bodies.Given as goal
 
 abbrev pub invariant-loop-i : goal.invariant-loop-i
-invariant-loop-i l = (l.i ≤ l.sessions) × (l.at ≤ length l.file) × (are_bodies l.sessions 0 (session_entry_at l.sessions) l.file ≡ are_bodies (l.sessions - l.i) l.i l.at l.file)
-
-abbrev pub decreases-loop-i : goal.decreases-loop-i
-decreases-loop-i l = l.sessions - l.i
+invariant-loop-i l = (l.at ≤ length l.file) × (are_bodies l.sessions 0 (session_entry_at l.sessions) l.file ≡ are_bodies (l.sessions - l.i) l.i l.at l.file)
