@@ -1,5 +1,5 @@
 -- The flat scope table and its entries: how many there are, what stands at each, and what seven stores to one of them do. Assumes nothing.
-use Rattle.std.proofs.Common.{◌≡◌, ℕ, zero, suc, ◌+◌, ◌-◌, ◌*◌, ◌%◌, ◌<◌, ◌≤◌, Bool, true, false, not, eqb, leb, ◌≢◌, List, [], ◌∷◌, ◌++◌, length, get_or, take, drop, set, replicate, sym, refl, ap, ◌∙◌, append_assoc, le_refl, le_of_suc-le-suc, not-suc-le-zero, add-zero, add-suc, suc-add, zero-add, arith, length-append, length-take-le, get_or-set_other, get_or-take, get_or-append-add, ext_get_or, leb-false, leb-true}
+use Rattle.std.proofs.Common.{◌≡◌, ℕ, zero, suc, ◌+◌, ◌-◌, ◌*◌, ◌%◌, ◌<◌, ◌≤◌, Bool, true, false, not, eqb, leb, ◌≢◌, List, [], ◌∷◌, ◌++◌, length, get_or, take, drop, set, replicate, sym, refl, ap, ◌∙◌, append_assoc, append-nil, le_refl, le_of_suc-le-suc, not-suc-le-zero, add-zero, add-suc, suc-add, zero-add, arith, length-append, length-take-le, get_or-set_other, get_or-take, get_or-append-add, drop_of_length-le, length-drop, mul-le-mul_left, mul-suc, ext_get_or, leb-false, leb-true}
 use lib.ListN.{length-replicate, get_or-append}
 use lib.Seq.{sets, sets-eq}
 use Rattle.book.specs.Lists.{pad_to, tabulate}
@@ -63,39 +63,67 @@ module _ {A : Type 0} (d : A) where
   filler (x ∷ xs) n zero h = absurd (not-suc-le-zero h)
   filler (x ∷ xs) n (suc i) h = filler xs n i (le_of_suc-le-suc h)
 
--- where all numbers from entry k on are 0, the entries from k on are unused
-module _ (t : List ℕ) (k n : ℕ) (w : k ≤ 64) (z : length t ≡ 448) where
+-- A flat table of m places of w numbers each: a place is read from its own numbers alone, and is blank where they are 0.
+module _ {A : Type 0} (at : List ℕ → ℕ → A) (blank : A) (w m : ℕ)
+    (near : (t u : List ℕ) (i : ℕ) → ((j : ℕ) → j < w → get_or t (w * i + j) 0 ≡ get_or u (w * i + j) 0) → at t i ≡ at u i)
+    (blank-at : (t : List ℕ) (i : ℕ) → ((j : ℕ) → get_or t (w * i + j) 0 ≡ 0) → at t i ≡ blank)
+    (t : List ℕ) (k n : ℕ) (few : k ≤ m) (z : length t ≡ w * m) where
   abbrev cut : List ℕ
-  cut = take (7 * k) t ++ replicate n 0
+  cut = take (w * k) t ++ replicate n 0
 
-  entry-before : (i : ℕ) → i < k → entry_at cut i ≡ entry_at t i
-  entry-before i h =
-      let at : (j : ℕ) → j < 7 → get_or cut (7 * i + j) 0 ≡ get_or t (7 * i + j) 0 = λ j q. cut-before 0 t (7 * k) n (7 * i + j) (omega arith) (omega arith) in
-      rw (at 0 (omega arith), at 1 (omega arith), at 2 (omega arith), at 3 (omega arith), at 4 (omega arith), at 5 (omega arith), at 6 (omega arith))
+  abbrev places : List A
+  places = tabulate m 0 (at t)
 
-  entry-from : (i : ℕ) → k ≤ i → entry_at cut i ≡ unused
-  entry-from i h =
-      let long = length-take-le (7 * k) t (omega arith) in
-      let at : (j : ℕ) → get_or cut (7 * i + j) 0 ≡ 0 = λ j. filler 0 (take (7 * k) t) n (7 * i + j) (omega arith) in
-      rw (at 0, at 1, at 2, at 3, at 4, at 5, at 6)
+  within : w * k ≤ length t
+  within = rw z (mul-le-mul_left w few)
 
-  cut_at : (i : ℕ) (b : Bool) → leb k i ≡ b → i < 64 → get_or (entries cut) i unused ≡ get_or (pad_to 64 unused (take k (entries t))) i unused
-  cut_at i true e h =
-      let long = entries-length t in
-      let short = length-take-le k (entries t) (omega arith) in
+  place-before : (i : ℕ) → i < k → at cut i ≡ at t i
+  place-before i h =
+      let next : w * suc i ≤ w * k = mul-le-mul_left w h in
+      let e : w * suc i ≡ w * i + w = mul-suc w i in
+      near cut t i (λ j q. cut-before 0 t (w * k) n (w * i + j) (omega arith) within)
+
+  place-from : (i : ℕ) → k ≤ i → at cut i ≡ blank
+  place-from i h =
+      let long = length-take-le (w * k) t within in
+      let past : w * k ≤ w * i = mul-le-mul_left w h in
+      blank-at cut i (λ j. filler 0 (take (w * k) t) n (w * i + j) (omega arith))
+
+  cut-at : (i : ℕ) (b : Bool) → leb k i ≡ b → i < m → at cut i ≡ get_or (pad_to m blank (take k places)) i blank
+  cut-at i true e h =
+      let all = tabulate-length m 0 (at t) in
+      let short = length-take-le k places (omega arith) in
       let l = leb-true k i e in
-      entries_at cut i h ∙ entry-from i l ∙ sym (filler unused (take k (entries t)) (64 - length (take k (entries t))) i (omega arith))
-  cut_at i false e h =
-      let long = entries-length t in
+      place-from i l ∙ sym (filler blank (take k places) (m - length (take k places)) i (omega arith))
+  cut-at i false e h =
+      let all = tabulate-length m 0 (at t) in
       let l = leb-false k i e in
-      entries_at cut i h ∙ entry-before i l ∙ sym (cut-before unused (entries t) k (64 - length (take k (entries t))) i l (omega arith) ∙ entries_at t i h)
+      place-before i l
+      ∙ sym (cut-before blank places k (m - length (take k places)) i l (omega arith) ∙ tabulate-at m 0 i (at t) blank h ∙ ap (at t) (zero-add i))
 
-  pub entries-cut : entries cut ≡ pad_to 64 unused (take k (entries t))
-  entries-cut =
-      let long = entries-length t in
-      let short = length-take-le k (entries t) (omega arith) in
-      let all : length (pad_to 64 unused (take k (entries t))) ≡ 64 = simp (length-append, length-replicate) (omega arith) in
-      ext_get_or unused (entries cut) _ (entries-length cut ∙ sym all) (λ i h. cut_at i (leb k i) refl (rw entries-length at h))
+  -- where all numbers from place k on are 0, the places from k on are blank
+  pub places-cut : tabulate m 0 (at cut) ≡ pad_to m blank (take k places)
+  places-cut =
+      let all = tabulate-length m 0 (at t) in
+      let long = tabulate-length m 0 (at cut) in
+      let short = length-take-le k places (omega arith) in
+      let padded : length (pad_to m blank (take k places)) ≡ m = simp (length-append, length-replicate) (omega arith) in
+      ext_get_or blank (tabulate m 0 (at cut)) _ (long ∙ sym padded)
+      (λ i h. let b : i < m = rw long at h in tabulate-at m 0 i (at cut) blank b ∙ ap (at cut) (zero-add i) ∙ cut-at i (leb k i) refl b)
+
+pub entries-cut : (t : List ℕ) (k n : ℕ) → k ≤ 64 → length t ≡ 448 → entries (take (7 * k) t ++ replicate n 0) ≡ pad_to 64 unused (take k (entries t))
+unfolding entries
+entries-cut =
+    places-cut entry_at unused 7 64
+    (λ t u i h. rw (h 0 (omega arith), h 1 (omega arith), h 2 (omega arith), h 3 (omega arith), h 4 (omega arith), h 5 (omega arith), h 6 (omega arith)))
+    (λ t i h. rw (h 0, h 1, h 2, h 3, h 4, h 5, h 6))
+
+-- a list whose numbers from number a on were set to 0, as a store to its part gives it
+pub cleared : (t x : List ℕ) (a : ℕ) → let part = take (length t - a) (drop a t) in x ≡ replicate (length part) 0
+    → take a t ++ (x ++ drop (length t - a) (drop a t)) ≡ take a t ++ replicate (length part) 0
+cleared t x a e =
+    let none : drop (length t - a) (drop a t) ≡ [] = drop_of_length-le (drop a t) {i = length t - a} (simp length-drop (omega arith)) in
+    rw (e, none, append-nil)
 
 -- ── Seven stores ──────────────────────────────────────────────────────────────────────────────────────────────────────
 

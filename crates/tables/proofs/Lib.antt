@@ -3,6 +3,5 @@ pub mod Flat
 pub mod Places
 pub mod Ending
 pub mod Searches
-pub mod Amounts
 pub mod Verdicts
 pub mod Ranges

@@ -1,7 +1,7 @@
--- Loops over the first n places of a list, place by place, of any element type: one that looks, one that rewrites each place, one that closes ranks,
--- and one that fills the rest. Each law says what a turn does to what the loop's invariant speaks of. Assumes nothing.
-use Rattle.std.proofs.Common.{◌≡◌, ℕ, zero, suc, ◌+◌, ◌-◌, ◌<◌, ◌≤◌, Bool, true, false, List, [], ◌∷◌, ◌++◌, map, length, get_or, take, drop, set, replicate, refl, ap, ◌∙◌, append_assoc, append-nil, le_of_suc-le-suc, not-suc-le-zero, add-one, arith, drop_of_length-le, length-take, drop-cons, get_or-take, take-suc-set, drop-set-lt}
-use lib.Seq.{take-length, take-set-lt}
+-- Loops over the first n places of a list, place by place, of any element type: one that looks, one that rewrites each place, and one that
+-- closes ranks. Each law says what a turn does to what the loop's invariant speaks of. Assumes nothing.
+use Rattle.std.proofs.Common.{◌≡◌, ℕ, zero, suc, ◌+◌, ◌<◌, ◌≤◌, Bool, true, false, List, [], ◌∷◌, ◌++◌, map, length, get_or, take, drop, set, refl, ap, ◌∙◌, append_assoc, append-nil, le_of_suc-le-suc, not-suc-le-zero, add-one, arith, drop_of_length-le, length-take, drop-cons, get_or-take, take-suc-set, drop-set-lt}
+use lib.Seq.{take-set-lt}
 use Rattle.book.specs.Lists.{keep}
 
 module _ {A : Type 0} where
@@ -53,21 +53,3 @@ module _ {A : Type 0} where
 
   pub ranks-end : (p : A → Bool) (n k i : ℕ) (l : List A) → n ≤ i → ranks p n k i l ≡ take k l
   ranks-end p n k i l h = rw (left_end n i l h) (append-nil _)
-
-  -- ── Filling the rest ────────────────────────────────────────────────────────────────────────────────────────────────
-
-  -- the first i places, and the filler up to the length n
-  abbrev pub filled : ℕ → A → ℕ → List A → List A
-  filled n d i l = take i l ++ replicate (n - i) d
-
-  pub filled_next : (n i : ℕ) (l : List A) (d : A) → i < n → n ≤ length l → filled n d (i + 1) (set l i d) ≡ filled n d i l
-  filled_next n i l d h k =
-      let a : i < length l = omega arith in
-      let e : n - i ≡ suc (n - suc i) = omega arith in
-      rw (e, add-one, take-suc-set, append_assoc)
-
-  pub filled-end : (n i : ℕ) (l : List A) (d : A) → n ≤ i → length l ≡ n → i ≤ n → filled n d i l ≡ l
-  filled-end n i l d h k w =
-      let e : i ≡ length l = omega arith in
-      let z : n - i ≡ 0 = omega arith in
-      rw (z, e, take-length) (append-nil _)

@@ -1,9 +1,10 @@
 -- The flat visits and their places: how many there are, what stands at each, and what two stores to one of them do. Assumes nothing.
-use Rattle.std.proofs.Common.{◌≡◌, ℕ, ◌+◌, ◌*◌, ◌<◌, Bool, ◌≢◌, List, length, get_or, set, replicate, ◌∙◌, zero-add, arith, length-set, get_or-set_other, get_or-set_same}
+use Rattle.std.proofs.Common.{◌≡◌, ℕ, ◌+◌, ◌*◌, ◌<◌, Bool, ◌≢◌, List, ◌++◌, ◌≤◌, length, get_or, set, take, replicate, ◌∙◌, zero-add, add-zero, arith, length-set, get_or-set_other, get_or-set_same}
 use Rattle.tables_model.specs.Entries.{flag}
 use Rattle.tables_model.specs.Layout.{active_at, actives}
 use Rattle.tables_model.specs.Meaning.{vacant}
-use Rattle.tables.proofs.Flat.{tabulate-length, tabulate-at, tabulate-set, handed-back}
+use Rattle.tables.proofs.Flat.{tabulate-length, tabulate-at, tabulate-set, places-cut, handed-back}
+use Rattle.book.specs.Lists.{pad_to}
 
 pub actives-length : (vs : List ℕ) → length (actives vs) ≡ 16
 unfolding actives
@@ -16,6 +17,11 @@ actives-at vs i h = tabulate-at 16 0 i (active_at vs) vacant h ∙ rw zero-add
 pub actives-zero : (n : ℕ) → n ≡ 32 → actives (replicate n 0) ≡ replicate 16 vacant
 unfolding actives
 actives-zero n e = rw e
+
+-- where all numbers from place k on are 0, the places from k on are vacant
+pub actives-cut : (vs : List ℕ) (k n : ℕ) → k ≤ 16 → length vs ≡ 32 → actives (take (2 * k) vs ++ replicate n 0) ≡ pad_to 16 vacant (take k (actives vs))
+unfolding actives
+actives-cut = places-cut active_at vacant 2 16 (λ t u i h. rw (rw add-zero at (h 0 (omega arith)), h 1 (omega arith))) (λ t i h. rw (rw add-zero at (h 0), h 1))
 
 -- two numbers set, the second behind the first
 abbrev pub pair : List ℕ → ℕ → ℕ → ℕ → List ℕ

@@ -1,11 +1,10 @@
 // The flat scope table, entry by entry, and field by field where a loop needs no more of an entry.
 ghost use Rattle.std.specs.Prelude.{◌≡◌, ◌+◌, ◌*◌, ◌<◌, length, slice_index_or, slice_set};
 ghost use Rattle.book.specs.Scopes.{unused};
-ghost use Rattle.tables_model.specs.Entries.{Inside, scope_in, flag};
+ghost use Rattle.tables_model.specs.Entries.{Inside, scope_in};
 ghost use Rattle.tables_model.specs.Layout.{entry_width, field_at, entry_at, entries as entries_of};
 
 use crate::layout::{CELL, COUNT, ENTRY_WIDTH, FIRST, HANDED, HOLDER, LAST, MAKER};
-use rows::numbers::low;
 use rows::{Cell, Lsn, Visit};
 use tables_model::Scope;
 
@@ -36,7 +35,7 @@ pub(crate) fn cell_at(t: &[u16], i: usize) -> Cell
     requires { Inside (length t.now) i }
     ensures { result.0 ≡ (entry_at t.now i).cell }
 {
-    Cell(low(number_at(t, i, CELL)))
+    Cell((number_at(t, i, CELL) % 256) as u8)
 }
 
 fn first_at(t: &[u16], i: usize) -> Lsn
@@ -84,12 +83,6 @@ pub fn entry_at(t: &[u16], i: usize) -> Scope
     }
 }
 
-pub(crate) fn flag_of(b: bool) -> u16
-    ensures { result ≡ flag b }
-{
-    if b { 1 } else { 0 }
-}
-
 // Number k of entry i is set.
 fn put_number(t: &mut [u16], i: usize, k: usize, x: u16)
     requires { Inside (length t.old) i × (k < entry_width) }
@@ -103,12 +96,11 @@ pub fn put_entry(t: &mut [u16], i: usize, e: Scope)
     requires { Inside (length t.old) i }
     ensures { entries_of t.new ≡ slice_set (entries_of t.old) i (scope_in e) }
 {
-    let handed = flag_of(e.handed);
     put_number(t, i, MAKER, e.maker.0);
     put_number(t, i, HOLDER, e.holder.0);
-    put_number(t, i, CELL, e.cell.0 as u16);
+    put_number(t, i, CELL, u16::from(e.cell.0));
     put_number(t, i, FIRST, e.first.0);
     put_number(t, i, LAST, e.last.0);
-    put_number(t, i, HANDED, handed);
+    put_number(t, i, HANDED, u16::from(e.handed));
     put_number(t, i, COUNT, e.count);
 }

@@ -16,15 +16,7 @@ fn grows_at(t: &[u16], i: usize, v: Visit, c: Cell) -> bool
     requires { Inside (length t.now) i }
     ensures { result ≡ grows v.0 c.0 (slice_index_or (entries_of t.now) i unused) }
 {
-    let cell = cell_at(t, i);
-    if cell.0 != c.0 {
-        return false;
-    }
-    let maker = maker_at(t, i);
-    if maker.0 != v.0 {
-        return false;
-    }
-    !handed_at(t, i)
+    cell_at(t, i) == c && maker_at(t, i) == v && !handed_at(t, i)
 }
 
 // The first entry in use that a change of the cell by the visit grows.
@@ -32,14 +24,10 @@ pub fn find_growing(t: &[u16], used: usize, v: Visit, c: Cell) -> Option<usize>
     requires { Sized (length t.now) used }
     ensures { result ≡ find (grows v.0 c.0) used (entries_of t.now) }
 {
-    let end = used as u32;
-    let mut i: u32 = 0;
-    while i < end {
-        let at = i as usize;
-        if grows_at(t, at, v, c) {
-            return Some(at);
+    for i in 0..used as u32 {
+        if grows_at(t, i as usize, v, c) {
+            return Some(i as usize);
         }
-        i += 1;
     }
     None
 }
@@ -49,14 +37,10 @@ pub fn holds_cell(t: &[u16], used: usize, v: Visit, cs: CellSet) -> bool
     requires { Sized (length t.now) used }
     ensures { result ≡ holds_cell used v.0 (among cs) (entries_of t.now) }
 {
-    let end = used as u32;
-    let mut i: u32 = 0;
-    while i < end {
-        let e = entry_at(t, i as usize);
-        if is_held(e, v, cs) {
+    for i in 0..used as u32 {
+        if is_held(entry_at(t, i as usize), v, cs) {
             return true;
         }
-        i += 1;
     }
     false
 }
@@ -67,10 +51,10 @@ fn last_by(t: &[u16], i: usize, w: Whom) -> u16
     ensures { result ≡ last_by w (slice_index_or (entries_of t.now) i unused) }
 {
     if covers(w, holder_at(t, i)) {
-        let last = last_at(t, i);
-        return last.0;
+        last_at(t, i).0
+    } else {
+        0
     }
-    0
 }
 
 // The entry with the highest open change of these visits.
@@ -78,23 +62,16 @@ pub fn highest(t: &[u16], used: usize, w: Whom) -> Option<usize>
     requires { Sized (length t.now) used }
     ensures { result ≡ highest_in w used (entries_of t.now) }
 {
-    let end = used as u32;
-    let mut last: u16 = 0;
-    let mut found: usize = 0;
-    let mut i: u32 = 0;
-    while i < end {
-        let at = i as usize;
-        let x = last_by(t, at, w);
+    let mut last = 0;
+    let mut found = None;
+    for i in 0..used as u32 {
+        let x = last_by(t, i as usize, w);
         if last < x {
             last = x;
-            found = at;
+            found = Some(i as usize);
         }
-        i += 1;
     }
-    if last == 0 {
-        return None;
-    }
-    Some(found)
+    found
 }
 
 // The highest open change of the entry found, 0 for none.
@@ -113,12 +90,9 @@ pub fn open_count(t: &[u16], used: usize) -> usize
     requires { Sized (length t.now) used }
     ensures { (result ≡ open_count used (entries_of t.now)) × (result < 4194305) }
 {
-    let end = used as u32;
-    let mut sum: u32 = 0;
-    let mut i: u32 = 0;
-    while i < end {
-        sum += count_at(t, i as usize) as u32;
-        i += 1;
+    let mut sum = 0;
+    for i in 0..used as u32 {
+        sum += u32::from(count_at(t, i as usize));
     }
     sum as usize
 }

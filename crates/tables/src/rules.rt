@@ -1,7 +1,5 @@
 // The row rules by the tables: what a row needs of visits, cells, holders and undo rows, and of the sixteen visits, the scopes and the free rows.
-ghost use Rattle.std.specs.Prelude.{◌≡◌, ℕ, suc, ◌-◌, ◌<◌, ◌&&◌, List, length, ◌==◌};
-ghost use Rattle.book.specs.Lists.{eq_z};
-ghost use Rattle.book.specs.Limits.{row_limit};
+ghost use Rattle.std.specs.Prelude.{◌≡◌, ℕ, suc, ◌<◌, List, length, ◌==◌};
 ghost use Rattle.rows.specs.Meaning.{meant};
 ghost use Rattle.tables_model.specs.Rows.{Ready, Ranged, index, reserve_by, room_by, highest_of, grows_by, has_entry, is_change};
 ghost use Rattle.tables_model.specs.Table.{among};
@@ -21,24 +19,13 @@ pub fn reserve(t: Counts, scopes: &[u16]) -> usize
     t.count + open_count(scopes, t.used)
 }
 
-fn free_rows(rows: usize) -> usize
-    ensures { result ≡ row_limit - rows }
-{
-    if rows < ROW_LIMIT {
-        ROW_LIMIT - rows
-    } else {
-        0
-    }
-}
-
 // After so many rows, n more are free besides the reserve.
 pub fn has_room(t: Counts, scopes: &[u16], rows: usize, n: usize) -> bool
     requires ranged { Ranged t (length scopes.now) }
     requires n_bound { n < 65536 }
     ensures { (vs : List ℕ) → result ≡ room_by (index t vs scopes.now) rows n }
 {
-    let needed = reserve(t, scopes) + n;
-    needed <= free_rows(rows)
+    reserve(t, scopes) + n <= ROW_LIMIT.saturating_sub(rows)
 }
 
 // The highest open change that the visit holds, 0 for none.
@@ -46,8 +33,7 @@ pub fn highest_of(t: Counts, scopes: &[u16], v: Visit) -> Lsn
     requires { Ranged t (length scopes.now) }
     ensures { (vs : List ℕ) → result.0 ≡ highest_of (index t vs scopes.now) v.0 }
 {
-    let found = highest(scopes, t.used, Whom::One(v));
-    last_found(scopes, found)
+    last_found(scopes, highest(scopes, t.used, Whom::One(v)))
 }
 
 // A change of the cell by the visit would grow a scope.
@@ -77,38 +63,14 @@ pub fn may_hand_over(
     requires { Ready t (length visits.now) (length scopes.now) }
     ensures { result ≡ may_hand_over_by (index t visits.now scopes.now) g.0 r.0 (among cs) }
 {
-    if g.0 == r.0 {
-        return false;
-    }
-    if !may_act(t, visits, g) {
-        return false;
-    }
-    if !may_act(t, visits, r) {
-        return false;
-    }
-    holds_cell(scopes, t.used, g, cs)
-}
-
-// Same cell and same amount.
-fn is_same(k: Cell, z: i16, c: Cell, a: i16) -> bool
-    ensures { result ≡ (k.0 == c.0 && eq_z z a) }
-{
-    if k.0 == c.0 { z == a } else { false }
+    g != r && may_act(t, visits, g) && may_act(t, visits, r) && holds_cell(scopes, t.used, g, cs)
 }
 
 // The row is a change with this cell and amount.
 fn is_change(row: Row, c: Cell, a: i16) -> bool
     ensures { result ≡ is_change (meant row) c.0 a }
 {
-    match row {
-        Row::Begin(_) => false,
-        Row::Change(_, k, z) => is_same(k, z, c, a),
-        Row::HandOver(_, _, _) => false,
-        Row::Undo(_, _, _, _) => false,
-        Row::Commit(_) => false,
-        Row::Abort(_) => false,
-        Row::HandOverAll(_, _) => false,
-    }
+    matches!(row, Row::Change(_, k, z) if k == c && z == a)
 }
 
 // The row undone is the holder's highest open change, and `named`, the row with that number, has the cell and the amount.
@@ -116,14 +78,7 @@ pub fn may_undo(t: Counts, scopes: &[u16], named: Row, h: Visit, c: Cell, n: Lsn
     requires { Ranged t (length scopes.now) }
     ensures { (vs : List ℕ) → result ≡ may_undo (index t vs scopes.now) (meant named) h.0 c.0 n.0 a }
 {
-    if n.0 < 1 {
-        return false;
-    }
-    let top = highest_of(t, scopes, h);
-    if top.0 != n.0 {
-        return false;
-    }
-    is_change(named, c, a)
+    n.0 >= 1 && highest_of(t, scopes, h) == n && is_change(named, c, a)
 }
 
 // The visit is active, and all its changes are undone.
@@ -131,18 +86,14 @@ pub fn may_abort(t: Counts, visits: &[u16], scopes: &[u16], v: Visit) -> bool
     requires { Ready t (length visits.now) (length scopes.now) }
     ensures { result ≡ may_abort (index t visits.now scopes.now) v.0 }
 {
-    if !is_listed(t, visits, v) {
-        return false;
-    }
-    let top = highest_of(t, scopes, v);
-    top.0 == 0
+    is_listed(t, visits, v) && highest_of(t, scopes, v) == Lsn(0)
 }
 
 // The visit's number is the next one.
 pub fn is_next(t: Counts, v: Visit) -> bool
     ensures { result ≡ (v.0 == suc t.begun) }
 {
-    v.0 as u32 == t.begun as u32 + 1
+    u32::from(v.0) == u32::from(t.begun) + 1
 }
 
 // What a row needs of visits, cells, holders and undo rows. `named` is the row that an undo row names.
@@ -152,10 +103,9 @@ pub fn is_lawful(t: Counts, visits: &[u16], scopes: &[u16], row: Row, named: Row
 {
     match row {
         Row::Begin(v) => is_next(t, v),
-        Row::Change(v, _, _) => may_act(t, visits, v),
+        Row::Change(v, ..) | Row::Commit(v) => may_act(t, visits, v),
         Row::HandOver(g, r, c) => may_hand_over(t, visits, scopes, g, r, CellSet::Only(c)),
         Row::Undo(h, c, n, a) => may_undo(t, scopes, named, h, c, n, a),
-        Row::Commit(v) => may_act(t, visits, v),
         Row::Abort(v) => may_abort(t, visits, scopes, v),
         Row::HandOverAll(g, r) => may_hand_over(t, visits, scopes, g, r, CellSet::Every),
     }
@@ -165,22 +115,14 @@ fn room_to_begin(t: Counts, scopes: &[u16], rows: usize) -> bool
     requires { Ranged t (length scopes.now) }
     ensures { (vs : List ℕ) → result ≡ room_to_begin (index t vs scopes.now) rows }
 {
-    if t.count < ACTIVE_LIMIT {
-        has_room(t, scopes, rows, 2)
-    } else {
-        false
-    }
+    t.count < ACTIVE_LIMIT && has_room(t, scopes, rows, 2)
 }
 
 fn room_to_change(t: Counts, scopes: &[u16], rows: usize, v: Visit, c: Cell) -> bool
     requires { Ranged t (length scopes.now) }
     ensures { (vs : List ℕ) → result ≡ room_to_change (index t vs scopes.now) rows v.0 c.0 }
 {
-    if has_entry(t, scopes, v, c) {
-        has_room(t, scopes, rows, 2)
-    } else {
-        false
-    }
+    has_entry(t, scopes, v, c) && has_room(t, scopes, rows, 2)
 }
 
 // What a row needs of the sixteen visits, the scopes and the free rows, after so many rows.
@@ -191,11 +133,8 @@ pub fn is_within_limits(t: Counts, scopes: &[u16], rows: usize, row: Row) -> boo
     match row {
         Row::Begin(_) => room_to_begin(t, scopes, rows),
         Row::Change(v, c, _) => room_to_change(t, scopes, rows, v, c),
-        Row::HandOver(_, _, _) => has_room(t, scopes, rows, 1),
-        Row::Undo(_, _, _, _) => true,
-        Row::Commit(_) => true,
-        Row::Abort(_) => true,
-        Row::HandOverAll(_, _) => has_room(t, scopes, rows, 1),
+        Row::HandOver(..) | Row::HandOverAll(..) => has_room(t, scopes, rows, 1),
+        Row::Undo(..) | Row::Commit(_) | Row::Abort(_) => true,
     }
 }
 

@@ -1,5 +1,5 @@
 // One entry of the scope table: the tests on it, and what a row makes of it.
-ghost use Rattle.std.specs.Prelude.{◌≡◌, ◌-◌};
+ghost use Rattle.std.specs.Prelude.{◌≡◌};
 ghost use Rattle.tables_model.specs.Entries.{scope_in};
 ghost use Rattle.tables_model.specs.Table.{among, is_held, covers as covers_by, grown as grown_scope};
 ghost use Rattle.tables_model.specs.Table.{started as started_scope, passed as passed_scope, lowered as lowered_scope};
@@ -12,7 +12,7 @@ pub fn is_among(cs: CellSet, cell: Cell) -> bool
     ensures { result ≡ among cs cell.0 }
 {
     match cs {
-        CellSet::Only(c) => cell.0 == c.0,
+        CellSet::Only(c) => cell == c,
         CellSet::Every => true,
     }
 }
@@ -21,12 +21,7 @@ pub fn is_among(cs: CellSet, cell: Cell) -> bool
 pub fn is_held(e: Scope, v: Visit, cs: CellSet) -> bool
     ensures { result ≡ is_held v.0 (among cs) (scope_in e) }
 {
-    let cell = e.cell;
-    if e.holder.0 == v.0 {
-        is_among(cs, cell)
-    } else {
-        false
-    }
+    e.holder == v && is_among(cs, e.cell)
 }
 
 // The take-back is about the holder.
@@ -34,7 +29,7 @@ pub fn covers(w: Whom, holder: Visit) -> bool
     ensures { result ≡ covers_by w holder.0 }
 {
     match w {
-        Whom::One(v) => holder.0 == v.0,
+        Whom::One(v) => holder == v,
         Whom::All => true,
     }
 }
@@ -58,34 +53,31 @@ pub fn started(n: Lsn, v: Visit, c: Cell) -> Scope
 pub fn grown(e: Scope, n: Lsn) -> Scope
     ensures { scope_in result ≡ grown_scope n.0 (scope_in e) }
 {
-    let mut r = e;
-    r.last = n;
-    r.count = std::num::wrapping_add_u16(e.count, 1);
-    r
+    Scope {
+        last: n,
+        count: e.count.wrapping_add(1),
+        ..e
+    }
 }
 
 // The scope passes to another holder.
 pub fn passed(e: Scope, r: Visit) -> Scope
     ensures { scope_in result ≡ passed_scope r.0 (scope_in e) }
 {
-    let mut x = e;
-    x.holder = r;
-    x.handed = true;
-    x
-}
-
-fn one_less(n: u16) -> u16
-    ensures { result ≡ n - 1 }
-{
-    if n == 0 { 0 } else { n - 1 }
+    Scope {
+        holder: r,
+        handed: true,
+        ..e
+    }
 }
 
 // The scope's last change is undone; `before` is the one before it. The entry stays, though it may be empty: it is in use until its holder ends.
 pub fn lowered(e: Scope, before: Lsn) -> Scope
     ensures { scope_in result ≡ lowered_scope before.0 (scope_in e) }
 {
-    let mut r = e;
-    r.last = before;
-    r.count = one_less(e.count);
-    r
+    Scope {
+        last: before,
+        count: e.count.saturating_sub(1),
+        ..e
+    }
 }

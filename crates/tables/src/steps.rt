@@ -15,11 +15,7 @@ pub fn after_change(t: Counts, scopes: &mut [u16], n: Lsn, v: Visit, c: Cell) ->
     ensures { (vs : List ℕ) → index result vs scopes.new ≡ after_change (index t vs scopes.old) n.0 v.0 c.0 }
 {
     let used = note_change(scopes, t.used, n, v, c);
-    Counts {
-        begun: t.begun,
-        count: t.count,
-        used: used,
-    }
+    Counts { used, ..t }
 }
 
 // The holder's highest open change is undone; `before` is the change before it in its scope, 0 for none.
@@ -62,12 +58,11 @@ pub fn step(
             hand_over(scopes, t.used, g, r, CellSet::Only(c));
             t
         }
-        Row::Undo(h, _, _, _) => {
+        Row::Undo(h, ..) => {
             after_undo(t, visits, scopes, h, before);
             t
         }
-        Row::Commit(v) => after_end(t, visits, scopes, v),
-        Row::Abort(v) => after_end(t, visits, scopes, v),
+        Row::Commit(v) | Row::Abort(v) => after_end(t, visits, scopes, v),
         Row::HandOverAll(g, r) => {
             hand_over(scopes, t.used, g, r, CellSet::Every);
             t

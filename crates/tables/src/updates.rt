@@ -19,8 +19,7 @@ pub fn note_change(t: &mut [u16], used: usize, n: Lsn, v: Visit, c: Cell) -> usi
     requires { MayNote t.old used v.0 c.0 }
     ensures { scopes_in result t.new ≡ scopes_changed used n.0 v.0 c.0 (entries_of t.old) }
 {
-    let found = find_growing(t, used, v, c);
-    match found {
+    match find_growing(t, used, v, c) {
         Some(i) => {
             let e = entry_at(t, i);
             put_entry(t, i, grown(e, n));
@@ -50,11 +49,8 @@ pub fn hand_over(t: &mut [u16], used: usize, g: Visit, r: Visit, cs: CellSet)
     requires { Sized (length t.old) used }
     ensures { entries_of t.new ≡ scopes_handed used g.0 r.0 (among cs) (entries_of t.old) }
 {
-    let end = used as u32;
-    let mut i: u32 = 0;
-    while i < end {
+    for i in 0..used as u32 {
         hand_entry(t, i as usize, g, r, cs);
-        i += 1;
     }
 }
 
@@ -73,7 +69,7 @@ fn move_entry(t: &mut [u16], kept: u32, i: u32, v: Visit) -> u32
     ensures { scopes_in result t.new ≡ moved_at v.0 i (scopes_in kept t.old) }
 {
     let e = entry_at(t, i as usize);
-    if e.holder.0 == v.0 {
+    if e.holder == v {
         return kept;
     }
     if kept == i {
@@ -88,12 +84,9 @@ fn close_ranks(t: &mut [u16], used: usize, v: Visit) -> usize
     requires { Sized (length t.old) used }
     ensures { ClosedRanks used v.0 (entries_of t.old) (scopes_in result t.new) }
 {
-    let end = used as u32;
-    let mut kept: u32 = 0;
-    let mut i: u32 = 0;
-    while i < end {
+    let mut kept = 0;
+    for i in 0..used as u32 {
         kept = move_entry(t, kept, i, v);
-        i += 1;
     }
     kept as usize
 }
@@ -103,8 +96,7 @@ fn clear_from(t: &mut [u16], k: usize)
     requires { Sized (length t.old) k }
     ensures { entries_of t.new ≡ pad_to scope_limit unused_scope (take k (entries_of t.old)) }
 {
-    let at = ENTRY_WIDTH * k;
-    t[at..].fill(0);
+    t[ENTRY_WIDTH * k..].fill(0);
 }
 
 // A commit or an abort: the entries that another visit holds close ranks, the rest is unused. Returns the entries then in use.

@@ -3,15 +3,13 @@ ghost use Rattle.std.specs.Prelude.{◌≡◌, length, take, slice_index_or, sli
 ghost use Rattle.book.specs.Lists.{pad_to};
 ghost use Rattle.book.specs.Limits.{active_limit};
 ghost use Rattle.tables_model.specs.Visits.{tables_in, places_in, Placed, Listed, Shifts, MayBegin, Without};
-ghost use Rattle.tables_model.specs.Visits.{is_of, marked, is_listed, with_begun, with_undo, with_ended, kept_at};
+ghost use Rattle.tables_model.specs.Visits.{marked, is_listed, with_begun, with_undo, with_ended, kept_at};
 ghost use Rattle.tables_model.specs.Rows.{may_act};
 ghost use Rattle.tables_model.specs.Meaning.{vacant};
 ghost use Rattle.tables_model.specs.Layout.{actives};
 
-use crate::entries::flag_of;
 use crate::layout::{BEARS, PLACE_WIDTH, VISIT};
 use rows::Visit;
-use rows::limits::ACTIVE_LIMIT;
 use tables_model::{Active, Counts};
 
 // Place i. Whatever is not 0 counts as bearing.
@@ -31,16 +29,9 @@ pub fn put_active(visits: &mut [u16], i: usize, a: Active)
     requires { Placed (length visits.old) i }
     ensures { actives visits.new ≡ slice_set (actives visits.old) i a }
 {
-    let bears = flag_of(a.bears);
     let at = PLACE_WIDTH * i;
     visits[at + VISIT] = a.visit.0;
-    visits[at + BEARS] = bears;
-}
-
-fn is_of(a: Active, v: Visit) -> bool
-    ensures { result ≡ is_of v.0 a }
-{
-    a.visit.0 == v.0
+    visits[at + BEARS] = u16::from(a.bears);
 }
 
 // The visit is listed as active.
@@ -48,14 +39,10 @@ pub fn is_listed(t: Counts, visits: &[u16], v: Visit) -> bool
     requires { Listed (length visits.now) t.count }
     ensures { result ≡ is_listed (tables_in t visits.now) v.0 }
 {
-    let count = t.count as u32;
-    let mut i: u32 = 0;
-    while i < count {
-        let a = active_at(visits, i as usize);
-        if is_of(a, v) {
+    for i in 0..t.count as u32 {
+        if active_at(visits, i as usize).visit == v {
             return true;
         }
-        i += 1;
     }
     false
 }
@@ -65,18 +52,15 @@ pub fn may_act(t: Counts, visits: &[u16], v: Visit) -> bool
     requires { Listed (length visits.now) t.count }
     ensures { result ≡ may_act (tables_in t visits.now) v.0 }
 {
-    let count = t.count as u32;
     let mut seen = false;
-    let mut i: u32 = 0;
-    while i < count {
+    for i in 0..t.count as u32 {
         let a = active_at(visits, i as usize);
-        if is_of(a, v) {
+        if a.visit == v {
             if a.bears {
                 return false;
             }
             seen = true;
         }
-        i += 1;
     }
     seen
 }
@@ -86,16 +70,15 @@ pub fn with_begun(t: Counts, visits: &mut [u16], v: Visit) -> Counts
     requires { MayBegin t visits.old v.0 }
     ensures { tables_in result visits.new ≡ with_begun (tables_in t visits.old) v.0 }
 {
-    let count = t.count;
     let a = Active {
         visit: v,
         bears: false,
     };
-    put_active(visits, count, a);
+    put_active(visits, t.count, a);
     Counts {
         begun: t.begun + 1,
-        count: count + 1,
-        used: t.used,
+        count: t.count + 1,
+        ..t
     }
 }
 
@@ -105,13 +88,8 @@ fn mark_at(visits: &mut [u16], i: usize, v: Visit)
     ensures { actives visits.new ≡ slice_set (actives visits.old) i (marked v.0 (slice_index_or (actives visits.old) i vacant)) }
 {
     let a = active_at(visits, i);
-    if is_of(a, v) {
-        let visit = a.visit;
-        let b = Active {
-            visit: visit,
-            bears: true,
-        };
-        put_active(visits, i, b);
+    if a.visit == v {
+        put_active(visits, i, Active { bears: true, ..a });
     }
 }
 
@@ -120,11 +98,8 @@ pub fn with_undo(t: Counts, visits: &mut [u16], v: Visit)
     requires { Listed (length visits.old) t.count }
     ensures { tables_in t visits.new ≡ with_undo (tables_in t visits.old) v.0 }
 {
-    let count = t.count as u32;
-    let mut i: u32 = 0;
-    while i < count {
+    for i in 0..t.count as u32 {
         mark_at(visits, i as usize, v);
-        i += 1;
     }
 }
 
@@ -134,7 +109,7 @@ fn move_active(visits: &mut [u16], kept: u32, i: u32, v: Visit) -> u32
     ensures { places_in result visits.new ≡ kept_at v.0 i (places_in kept visits.old) }
 {
     let a = active_at(visits, i as usize);
-    if is_of(a, v) {
+    if a.visit == v {
         return kept;
     }
     put_active(visits, kept as usize, a);
@@ -146,12 +121,9 @@ fn close_ranks(t: Counts, visits: &mut [u16], v: Visit) -> usize
     requires { Listed (length visits.old) t.count }
     ensures { Without (tables_in t visits.old) v.0 (places_in result visits.new) }
 {
-    let count = t.count as u32;
-    let mut kept: u32 = 0;
-    let mut i: u32 = 0;
-    while i < count {
+    let mut kept = 0;
+    for i in 0..t.count as u32 {
         kept = move_active(visits, kept, i, v);
-        i += 1;
     }
     kept as usize
 }
@@ -161,15 +133,7 @@ fn vacate_from(visits: &mut [u16], k: usize)
     requires { Listed (length visits.old) k }
     ensures { actives visits.new ≡ pad_to active_limit vacant (take k (actives visits.old)) }
 {
-    let none = Active {
-        visit: Visit(0),
-        bears: false,
-    };
-    let mut i = k;
-    while i < ACTIVE_LIMIT {
-        put_active(visits, i, none);
-        i += 1;
-    }
+    visits[PLACE_WIDTH * k..].fill(0);
 }
 
 // A commit or abort row; `used` is what the scope table has left.
@@ -180,8 +144,8 @@ pub fn with_ended(t: Counts, visits: &mut [u16], v: Visit, used: usize) -> Count
     let kept = close_ranks(t, visits, v);
     vacate_from(visits, kept);
     Counts {
-        begun: t.begun,
         count: kept,
-        used: used,
+        used,
+        ..t
     }
 }

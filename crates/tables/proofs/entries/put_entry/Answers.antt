@@ -15,6 +15,7 @@ returns c =
       c.put_number-2.ensures,
       c.put_number.ensures,
       add-zero,
-      c.flag_of-handed.ensures,
+      c.from-2.ensures,
+      c.from.ensures,
     )
-    (stores-set c.args.t.now c.args.i e.maker.0 e.holder.0 e.cell.0 e.first.0 e.last.0 e.count e.handed c.requires.below c.requires.long (omega (arith, c.struct_known-1.given)))
+    (stores-set c.args.t.now c.args.i e.maker.0 e.holder.0 e.cell.0 e.first.0 e.last.0 e.count e.handed c.requires.below c.requires.long (omega arith))

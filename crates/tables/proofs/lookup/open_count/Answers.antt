@@ -14,11 +14,11 @@ loop-i-preserved c =
     let turn = count_next c.args.t.now c.args.used l.i c.loop-i-test.true c.requires.within in
     let e : c.count_at.result ≡ (get_or (entries c.args.t.now) l.i unused).count =
     rw (entries_at c.args.t.now l.i (omega (arith, c.requires.within))) c.count_at.ensures in
-    (omega arith, omega (arith, c.count_at.type_inv), l.invariant.2 ∙ omega (arith, e, turn))
+    (omega (arith, c.count_at.type_inv), l.invariant.1 ∙ omega (arith, e, turn))
 
 pub returns : goal.returns
 unfolding open_count
 returns c =
     let l = c.loop-i in
     let none : count_all (left c.args.used l.i (entries c.args.t.now)) ≡ 0 = rw (left_end _ l.i _ c.loop-i-test.false) in
-    (omega (arith, l.invariant.2), omega (arith, c.requires.within))
+    (omega (arith, l.invariant.1), omega (arith, c.requires.within))

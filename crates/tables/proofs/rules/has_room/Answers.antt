@@ -4,4 +4,4 @@ use Rattle.tables.proofs.rules.has_room.Goals as goal
 
 pub returns : goal.returns
 unfolding room_by
-returns c vs = rw (← c.reserve.ensures.0 vs, c.free_rows.ensures)
+returns c vs = rw (← c.reserve.ensures.0 vs, c.saturating_sub.ensures)

@@ -1,5 +1,5 @@
 -- `tables::rules::is_lawful` meets its contract. Assumes nothing.
-use Rattle.std.proofs.Common.{to_z-of_z, w16, rules}
+use Rattle.std.proofs.Common.{inl, inr, to_z-of_z, w16, rules}
 use Rattle.tables_model.specs.Rows.{lawful_by}
 use Rattle.tables.proofs.rules.is_lawful.Goals as goal
 
@@ -9,7 +9,11 @@ returns-in-Begin c = rw (c.in-Begin.is, c.is_next.ensures)
 
 pub returns-in-Change : goal.returns-in-Change
 unfolding lawful_by
-returns-in-Change c = rw (c.in-Change.is, c.may_act.ensures)
+returns-in-Change c =
+    elim c.in-Change.is [
+      | inl q ↦ rw (q.2, c.may_act.ensures)
+      | inr q ↦ rw (q, c.may_act.ensures)
+    ]
 
 pub returns-in-HandOver : goal.returns-in-HandOver
 unfolding lawful_by
@@ -19,10 +23,6 @@ pub returns-in-Undo : goal.returns-in-Undo
 unfolding lawful_by
 returns-in-Undo c =
     rw (c.in-Undo.is, c.may_undo.ensures c.args.visits.now, to_z-of_z {w = w16} {z = c.in-Undo.a} (search rules))
-
-pub returns-in-Commit : goal.returns-in-Commit
-unfolding lawful_by
-returns-in-Commit c = rw (c.in-Commit.is, c.may_act-in-Commit.ensures)
 
 pub returns-in-Abort : goal.returns-in-Abort
 unfolding lawful_by

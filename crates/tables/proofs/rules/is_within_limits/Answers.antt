@@ -1,4 +1,5 @@
 -- `tables::rules::is_within_limits` meets its contract. Assumes nothing.
+use Rattle.std.proofs.Common.{inl, inr}
 use Rattle.tables_model.specs.Rows.{within_limits_by}
 use Rattle.tables.proofs.rules.is_within_limits.Goals as goal
 
@@ -12,20 +13,16 @@ returns-in-Change c vs = rw (c.in-Change.is, c.room_to_change.ensures vs)
 
 pub returns-in-HandOver : goal.returns-in-HandOver
 unfolding within_limits_by
-returns-in-HandOver c vs = rw (c.in-HandOver.is, c.has_room.ensures vs)
+returns-in-HandOver c vs =
+    elim c.in-HandOver.is [
+      | inl q ↦ rw (q.3, c.has_room.ensures vs)
+      | inr q ↦ rw (q.2, c.has_room.ensures vs)
+    ]
 
 pub returns-in-Undo : goal.returns-in-Undo
 unfolding within_limits_by
-returns-in-Undo c vs = rw c.in-Undo.is
-
-pub returns-in-Commit : goal.returns-in-Commit
-unfolding within_limits_by
-returns-in-Commit c vs = rw c.in-Commit.is
-
-pub returns-in-Abort : goal.returns-in-Abort
-unfolding within_limits_by
-returns-in-Abort c vs = rw c.in-Abort.is
-
-pub returns-in-HandOverAll : goal.returns-in-HandOverAll
-unfolding within_limits_by
-returns-in-HandOverAll c vs = rw (c.in-HandOverAll.is, c.has_room-in-HandOverAll.ensures vs)
+returns-in-Undo c vs =
+    elim c.in-Undo.is [
+      | inl q ↦ rw q.4
+      | inr q ↦ elim q [ inl p ↦ rw p.1 | inr p ↦ rw p.1 ]
+    ]

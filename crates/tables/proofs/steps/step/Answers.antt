@@ -1,4 +1,5 @@
 -- `tables::steps::step` meets its contract. Assumes nothing.
+use Rattle.std.proofs.Common.{inl, inr}
 use Rattle.tables_model.specs.Rows.{grows_by, step_by}
 use Rattle.tables.proofs.steps.step.Goals as goal
 
@@ -28,11 +29,11 @@ returns-in-Undo c = rw c.in-Undo.is c.after_undo.ensures
 
 pub returns-in-Commit : goal.returns-in-Commit
 unfolding step_by
-returns-in-Commit c = rw c.in-Commit.is c.after_end.ensures
-
-pub returns-in-Abort : goal.returns-in-Abort
-unfolding step_by
-returns-in-Abort c = rw c.in-Abort.is c.after_end-in-Abort.ensures
+returns-in-Commit c =
+    elim c.in-Commit.is [
+      | inl q ↦ rw q c.after_end.ensures
+      | inr q ↦ rw q c.after_end.ensures
+    ]
 
 pub returns-in-HandOverAll : goal.returns-in-HandOverAll
 unfolding step_by

@@ -14,14 +14,14 @@ loop-i-preserved c =
     let v = c.args.v.0 in
     let x : Scopes = scopes_in l.kept l.t in
     let w : c.args.used ≤ length (entries l.t) = rw entries-length c.requires.within in
-    let turn : Move v c.args.used l.i x (scopes_in m.result m.new.t) = rw m.ensures (move v c.args.used l.i x l.invariant.1 c.loop-i-test.true w) in
-    (omega arith, turn.few, m.auto.t ∙ l.invariant.2, turn.left ∙ l.invariant.3)
+    let turn : Move v c.args.used l.i x (scopes_in m.result m.new.t) = rw m.ensures (move v c.args.used l.i x l.invariant.0 c.loop-i-test.true w) in
+    (turn.few, turn.left ∙ l.invariant.1)
 
 pub returns : goal.returns
 returns c =
     let l = c.loop-i in
     let ss = entries l.t in
-    let e = sym (ranks-end (held_by_other c.args.v.0) c.args.used l.kept l.i ss c.loop-i-test.false) ∙ l.invariant.3 in
+    let e = sym (ranks-end (held_by_other c.args.v.0) c.args.used l.kept l.i ss c.loop-i-test.false) ∙ l.invariant.1 in
     let w : l.kept ≤ length ss = rw entries-length (omega (arith, c.requires.within)) in
     record {
       kept = e;

@@ -1,12 +1,9 @@
 -- `tables::updates::hand_over` meets its contract. The loop's invariant: the entries passed are handed on, the others are as they were. Assumes nothing.
-use Rattle.std.proofs.Common.{◌≡◌, ◌-◌, ◌≤◌, length}
+use Rattle.std.proofs.Common.{◌≡◌}
 use Rattle.tables_model.specs.Table.{among, handed_on}
 use Rattle.tables_model.specs.Layout.{entries}
 use Rattle.tables.proofs.Loops.{mapped}
 use Rattle.tables.proofs.updates.hand_over.Given as goal
 
 abbrev pub invariant-loop-i : goal.invariant-loop-i
-invariant-loop-i l = (l.i ≤ l.used) × (length l.t ≡ length l.initial.t) × (entries l.t ≡ mapped (handed_on l.g.0 l.r.0 (among l.cs)) l.i (entries l.initial.t))
-
-abbrev pub decreases-loop-i : goal.decreases-loop-i
-decreases-loop-i l = l.used - l.i
+invariant-loop-i l = entries l.t ≡ mapped (handed_on l.g.0 l.r.0 (among l.cs)) l.i (entries l.initial.t)

@@ -14,14 +14,14 @@ loop-i-preserved c =
     let v = c.args.v.0 in
     let x : Places = places_in l.kept l.visits in
     let w : c.args.t.count ≤ length (actives l.visits) = rw actives-length c.requires.within in
-    let u : Turn v c.args.t.count l.i x (places_in m.result m.new.visits) = rw m.ensures (turn v c.args.t.count l.i x l.invariant.1 c.loop-i-test.true w) in
-    (omega arith, u.few, m.auto.visits ∙ l.invariant.2, u.left ∙ l.invariant.3)
+    let u : Turn v c.args.t.count l.i x (places_in m.result m.new.visits) = rw m.ensures (turn v c.args.t.count l.i x l.invariant.0 c.loop-i-test.true w) in
+    (u.few, u.left ∙ l.invariant.1)
 
 pub returns : goal.returns
 returns c =
     let l = c.loop-i in
     let places = actives l.visits in
-    let e = sym (ranks-end (stays c.args.v.0) c.args.t.count l.kept l.i places c.loop-i-test.false) ∙ l.invariant.3 in
+    let e = sym (ranks-end (stays c.args.v.0) c.args.t.count l.kept l.i places c.loop-i-test.false) ∙ l.invariant.1 in
     let w : l.kept ≤ length places = rw actives-length (omega (arith, c.requires.within)) in
     record {
       kept = e;

@@ -1,5 +1,5 @@
 -- `tables::visits::close_ranks` meets its contract. The loop's invariant: the places kept, and those left without the visit, are all places without the visit. Assumes nothing.
-use Rattle.std.proofs.Common.{◌≡◌, ◌-◌, ◌≤◌, length, take}
+use Rattle.std.proofs.Common.{◌≡◌, ◌≤◌, take}
 use Rattle.book.specs.Lists.{keep}
 use Rattle.tables_model.specs.Layout.{actives}
 use Rattle.tables.proofs.Ending.{stays}
@@ -8,7 +8,5 @@ use Rattle.tables.proofs.visits.close_ranks.Given as goal
 
 abbrev pub invariant-loop-i : goal.invariant-loop-i
 invariant-loop-i l = let p = stays l.v.0 in
-    (l.i ≤ l.count) × (l.kept ≤ l.i) × (length l.visits ≡ length l.initial.visits) × (ranks p l.count l.kept l.i (actives l.visits) ≡ keep p (take l.count (actives l.initial.visits)))
-
-abbrev pub decreases-loop-i : goal.decreases-loop-i
-decreases-loop-i l = l.count - l.i
+    let count = l.fn.t.count in
+    (l.kept ≤ l.i) × (ranks p count l.kept l.i (actives l.visits) ≡ keep p (take count (actives l.initial.visits)))

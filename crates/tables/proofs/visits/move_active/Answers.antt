@@ -3,10 +3,10 @@ use Rattle.std.proofs.Common.{add-one}
 use Rattle.tables_model.specs.Visits.{kept_at}
 use Rattle.tables.proofs.visits.move_active.Goals as goal
 
-pub returns-then-is_of : goal.returns-then-is_of
+pub returns-then-eq : goal.returns-then-eq
 unfolding kept_at
-returns-then-is_of c = rw (← c.active_at-a.ensures, ← c.is_of.ensures, c.if-is_of.true)
+returns-then-eq c = rw (← c.active_at-a.ensures, ← c.eq.ensures, c.if-eq.true)
 
 pub returns : goal.returns
 unfolding kept_at
-returns c = rw (← c.active_at-a.ensures, ← c.is_of.ensures, c.if-is_of.false, c.put_active.ensures, add-one)
+returns c = rw (← c.active_at-a.ensures, ← c.eq.ensures, c.if-eq.false, c.put_active.ensures, add-one)

@@ -1,5 +1,5 @@
 -- `tables::visits::with_undo` meets its contract. The loop's invariant: the places passed are marked, the others are places they were. Assumes nothing.
-use Rattle.std.proofs.Common.{◌≡◌, ◌<◌, length, ◌∙◌, arith}
+use Rattle.std.proofs.Common.{◌≡◌, ◌<◌, length, arith}
 use Rattle.tables_model.specs.Visits.{with_undo, marked}
 use Rattle.tables_model.specs.Layout.{actives}
 use Rattle.tables_model.specs.Meaning.{vacant}
@@ -10,14 +10,13 @@ use Rattle.tables.proofs.visits.with_undo.Goals as goal
 pub loop-i-preserved : goal.loop-i-preserved
 loop-i-preserved c =
     let l = c.loop-i in
-    let m = c.mark_at in
     let places = actives c.args.visits.now in
     let h : l.i < length places = rw actives-length (omega (arith, c.requires.within, c.loop-i-test.true)) in
-    (omega arith, m.auto.visits ∙ l.invariant.1, rw (m.ensures, l.invariant.2) (mapped_next (marked c.args.v.0) l.i places vacant h))
+    rw (c.mark_at.ensures, l.invariant) (mapped_next (marked c.args.v.0) l.i places vacant h)
 
 pub returns : goal.returns
 unfolding with_undo
 returns c =
     let l = c.loop-i in
     let e : l.i ≡ c.args.t.count = omega arith in
-    rw (l.invariant.2, e)
+    rw (l.invariant, e)
