@@ -1,7 +1,8 @@
 -- The modules marked `pub` have the laws that crates above cite; the others serve the proofs here.
-mod Twos
 pub mod Sums
+mod Bytes
 mod Turns
+mod AllPass
 mod Built
 mod Overwrites
 pub mod Parts

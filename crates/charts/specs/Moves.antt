@@ -1,15 +1,11 @@
 -- A row applied to a page and to the charts: bytes from bytes, for any bytes at all.
-use Rattle.std.specs.Prelude.{ℕ, ◌+◌, ◌*◌, ◌%◌, ◌^◌, Bool, cond, List, ◌++◌, take, drop, ℤ, neg_ℤ}
+use Rattle.std.specs.Prelude.{ℕ, ◌+◌, ◌*◌, ◌%◌, ◌^◌, List, ◌++◌, take, drop, ℤ}
 use Rattle.std.proofs.lemmas.List.Edits.{sets}
 use Rattle.book.specs.Limits.{places, page_length}
 use Rattle.book.specs.Rows.{Effect, nothing, moves}
 use Rattle.book.specs.Cells.{page_of_cell}
 use Rattle.book.specs.Numbers.{le, number, bits_of}
 use Rattle.book.specs.Pages.{page_at}
-
--- 01: a change is added, an undo subtracted
-abbrev pub amount_of : Bool → ℤ → ℤ
-amount_of subtract a = cond subtract (neg_ℤ a) a
 
 -- the cell at place j moves by z in 32-bit two's complement, and the mark becomes n
 unfoldable pub page_moved : List ℕ → ℕ → ℤ → ℕ → List ℕ

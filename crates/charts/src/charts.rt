@@ -4,7 +4,7 @@ ghost use Rattle.book.specs.Pages.{page_at, page_of, cell_of};
 ghost use Rattle.book.specs.Rows.{moves};
 ghost use Rattle.book.specs.Limits.{charts_length};
 ghost use Rattle.rows.specs.Meaning.{effect_meant};
-ghost use Rattle.charts.specs.Moves.{amount_of, charts_moved};
+ghost use Rattle.charts.specs.Moves.{charts_moved};
 
 use crate::page;
 use rows::limits::{CELL_LIMIT, PAGE_LENGTH, PAGE_LIMIT, PLACES};
@@ -19,8 +19,7 @@ pub fn read_mark(charts: &[u8], p: usize) -> Lsn
         return Lsn(0);
     }
     let a = PAGE_LENGTH * p;
-    let e = a + PAGE_LENGTH;
-    page::read_mark(&charts[a..e])
+    page::read_mark(&charts[a..a + PAGE_LENGTH])
 }
 
 // A cell.
@@ -28,37 +27,36 @@ pub fn read_cell(charts: &[u8], cell: Cell) -> i32
     requires { length charts.now ≡ charts_length }
     ensures { result ≡ cell_of charts.now cell.0 }
 {
-    let c = cell.0 as usize;
+    let c = usize::from(cell.0);
     if CELL_LIMIT <= c {
         return 0;
     }
     let a = PAGE_LENGTH * (c / PLACES);
-    let e = a + PAGE_LENGTH;
-    page::read_place(&charts[a..e], c % PLACES)
+    page::read_place(&charts[a..a + PAGE_LENGTH], c % PLACES)
 }
 
-// A change is added to a cell, or subtracted from it, and row n becomes its page's mark.
-pub fn apply(charts: &mut [u8], cell: Cell, amount: i16, subtract: bool, n: Lsn)
+// The grams are added to a cell, in 32 bits, and row n becomes its page's mark.
+pub fn apply(charts: &mut [u8], cell: Cell, grams: i32, n: Lsn)
     requires { length charts.old ≡ charts_length }
-    ensures { charts.new ≡ charts_moved charts.old (moves cell.0 (amount_of subtract amount)) n.0 }
+    ensures { charts.new ≡ charts_moved charts.old (moves cell.0 grams) n.0 }
 {
-    let c = cell.0 as usize;
+    let c = usize::from(cell.0);
     if CELL_LIMIT <= c {
         return;
     }
     let a = PAGE_LENGTH * (c / PLACES);
-    let e = a + PAGE_LENGTH;
-    page::move_place(&mut charts[a..e], c % PLACES, amount, subtract, n);
+    page::move_place(&mut charts[a..a + PAGE_LENGTH], c % PLACES, grams, n);
 }
 
 // The effect of row n.
+#[tactic(auto, unfolding(crate::specs::Moves::charts_moved))]
 pub fn apply_effect(charts: &mut [u8], effect: Effect, n: Lsn)
     requires { length charts.old ≡ charts_length }
     ensures { charts.new ≡ charts_moved charts.old (effect_meant effect) n.0 }
 {
     match effect {
         Effect::Nothing => {}
-        Effect::Adds(cell, amount) => apply(charts, cell, amount, false, n),
-        Effect::Subtracts(cell, amount) => apply(charts, cell, amount, true, n),
+        Effect::Adds(cell, amount) => apply(charts, cell, i32::from(amount), n),
+        Effect::Subtracts(cell, amount) => apply(charts, cell, -i32::from(amount), n),
     }
 }

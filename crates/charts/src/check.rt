@@ -14,23 +14,7 @@ use rows::numbers::read16;
 fn in_bounds(z: i32) -> bool
     ensures { result ≡ within chart_bound z }
 {
-    -200000000 <= z && z <= 200000000
-}
-
-// The first place whose cell is out of bounds, or 7.
-fn first_out(p: &[u8]) -> usize
-    requires { length p.now ≡ page_length }
-    ensures { result ≡ first_failing places 0 (λ j. within chart_bound ((page_of p.now).cell j)) }
-{
-    let mut i: usize = 0;
-    while i < PLACES {
-        if in_bounds(read_place(p, i)) {
-            i += 1;
-        } else {
-            return i;
-        }
-    }
-    i
+    (-200_000_000..=200_000_000).contains(&z)
 }
 
 // Bytes 2 and 3 are zero, and every cell is in bounds.
@@ -38,10 +22,7 @@ fn is_sound(p: &[u8]) -> bool
     requires { length p.now ≡ page_length }
     ensures { result ≡ is_sound p.now }
 {
-    if read16(p, 2) == 0 {
-        return first_out(p) == PLACES;
-    }
-    false
+    read16(p, 2) == 0 && (0..PLACES).all(|i| in_bounds(read_place(p, i)))
 }
 
 // The page passes: its mark is allowed, as the caller says, and its bytes are sound.
@@ -49,8 +30,5 @@ pub fn page_ok(p: &[u8], allowed: bool) -> bool
     requires { length p.now ≡ page_length }
     ensures { result ≡ (allowed && is_sound p.now) }
 {
-    if allowed {
-        return is_sound(p);
-    }
-    false
+    allowed && is_sound(p)
 }

@@ -2,15 +2,15 @@
 ghost use Rattle.std.specs.Prelude.{◌≡◌, ◌<◌, length, pos, slice_index_or};
 ghost use Rattle.book.specs.Pages.{page_bytes, page_of};
 ghost use Rattle.book.specs.Limits.{page_length, places};
-ghost use Rattle.charts.specs.Moves.{amount_of, page_moved};
+ghost use Rattle.charts.specs.Moves.{page_moved};
 ghost use Rattle.charts.specs.Build.{from_cells, cells_written};
 
-use crate::numbers::{bits32, moved32, signed32, write16, write32};
+use crate::numbers::{write16, write32};
 use rows::Lsn;
-use rows::limits::PLACES;
 use rows::numbers::{read16, read32};
 
 // The page's mark.
+#[tactic(auto, unfolding(book::specs::Pages::page_of))]
 pub fn read_mark(p: &[u8]) -> Lsn
     requires { length p.now ≡ page_length }
     ensures { result.0 ≡ (page_of p.now).mark }
@@ -19,21 +19,22 @@ pub fn read_mark(p: &[u8]) -> Lsn
 }
 
 // The cell at a place of the page.
+#[tactic(auto, unfolding(book::specs::Pages::page_of))]
 pub fn read_place(p: &[u8], place: usize) -> i32
     requires { (length p.now ≡ page_length) × (place < places) }
     ensures { result ≡ (page_of p.now).cell place }
 {
-    signed32(read32(p, 4 + 4 * place))
+    read32(p, 4 + 4 * place).cast_signed()
 }
 
-// A change is added to the cell at a place, or subtracted from it, and row n becomes the page's mark.
-pub fn move_place(p: &mut [u8], place: usize, amount: i16, subtract: bool, n: Lsn)
+// The grams are added to the cell at a place, in 32 bits, and row n becomes the page's mark.
+#[tactic(auto, unfolding(crate::specs::Moves::page_moved))]
+pub fn move_place(p: &mut [u8], place: usize, grams: i32, n: Lsn)
     requires { (length p.old ≡ page_length) × (place < places) }
-    ensures { p.new ≡ page_moved p.old place (amount_of subtract amount) n.0 }
+    ensures { p.new ≡ page_moved p.old place grams n.0 }
 {
     let at = 4 + 4 * place;
-    let old = read32(p, at);
-    let new = moved32(old, amount, subtract);
+    let new = read32(p, at).wrapping_add(grams.cast_unsigned());
     write16(p, 0, n.0);
     write32(p, at, new);
 }
@@ -43,10 +44,8 @@ fn write_cells(p: &mut [u8], cells: &[i32])
     requires { (length p.old ≡ page_length) × (length cells.now ≡ places) }
     ensures { p.new ≡ cells_written places 0 (λ j. slice_index_or cells.now j (pos 0)) p.old }
 {
-    let mut i: usize = 0;
-    while i < PLACES {
-        write32(p, 4 + 4 * i, bits32(cells[i]));
-        i += 1;
+    for (i, cell) in cells.iter().enumerate() {
+        write32(p, 4 + 4 * i, cell.cast_unsigned());
     }
 }
 

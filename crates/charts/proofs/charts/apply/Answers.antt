@@ -13,4 +13,4 @@ unfolding charts_moved
 returns c =
     let a = 32 * (c.args.cell.0 / 7) in
     let e : a + 32 - a ≡ 32 = omega arith in
-    rw (c.move_place.ensures, e, to_z-of_z c.ranges.amount)
+    rw (c.move_place.ensures, c.from-c.ensures, e, to_z-of_z c.ranges.grams)

@@ -1,5 +1,5 @@
 -- `charts::charts::read_cell` meets its contract. Beyond the last page what is read is 0. Assumes nothing.
-use Rattle.std.proofs.Common.{◌-◌, arith}
+use Rattle.std.proofs.Common.{arith}
 use Rattle.charts.proofs.Parts.{cell-beyond}
 use Rattle.charts.proofs.charts.read_cell.Goals as goal
 
