@@ -10,9 +10,7 @@ use lib.Dec.{eqb}
 use borrow.Author.Tests.{eqb-true, eqb-false, eq-eqb}
 use Rattle.book.specs.Limits.{kind_limit}
 use Rattle.book.specs.Numbers.{number}
-use Rattle.book.specs.Lists.{eq_bytes}
-use Rattle.book.specs.Rows.{Row, begin, change, hand_over, undo, commit, abort, hand_over_all}
-use Rattle.book.specs.RowBytes.{kind_of, may_be, row_bytes, row_of, is_row_bytes}
+use Rattle.book.specs.RowBytes.{may_be, is_row_bytes}
 use Rattle.book.proofs.Lists.{and_l, and_r, and_i, clash, is_false}
 use Rattle.book.proofs.RowBytes.{by-table, table-bytes}
 use Rattle.rows.specs.Table.{ok_byte, as_table}
@@ -54,32 +52,6 @@ blank x0 x1 x2 x3 x4 x5 x6 x7 x8 x9 x10 x11 x12 x13 x14 x15 = refl
 pub blank-by-table : (b : List ℕ) → length b ≡ 16 → as_table 16 0 0 b ≡ is_blank b
 blank-by-table b e =
     ap (as_table 16 0 0) (sixteen b e) ∙ blank _ _ _ _ _ _ _ _ _ _ _ _ _ _ _ _ ∙ sym (ap is_blank (sixteen b e))
-
--- ── A row's bytes are not blank ───────────────────────────────────────────────────────────────────────────────────────
-
-first_byte : (n : ℕ) (r : Row) (x : ℕ) (xs : List ℕ) → eq_bytes (row_bytes n r) (x ∷ xs) ≡ true → kind_of r ≡ x
-unfolding row_bytes
-first_byte n (begin v) x xs e = eqb-true 1 x (and_l (eqb 1 x) _ e)
-first_byte n (change v c a) x xs e = eqb-true 2 x (and_l (eqb 2 x) _ e)
-first_byte n (hand_over g r c) x xs e = eqb-true 3 x (and_l (eqb 3 x) _ e)
-first_byte n (undo h c u a) x xs e = eqb-true 4 x (and_l (eqb 4 x) _ e)
-first_byte n (commit v) x xs e = eqb-true 5 x (and_l (eqb 5 x) _ e)
-first_byte n (abort v) x xs e = eqb-true 6 x (and_l (eqb 6 x) _ e)
-first_byte n (hand_over_all g r) x xs e = eqb-true 7 x (and_l (eqb 7 x) _ e)
-
-some-kind : (r : Row) → kind_of r ≡ 0 → ⊥
-some-kind (begin v) e = omega arith
-some-kind (change v c a) e = omega arith
-some-kind (hand_over g r c) e = omega arith
-some-kind (undo h c u a) e = omega arith
-some-kind (commit v) e = omega arith
-some-kind (abort v) e = omega arith
-some-kind (hand_over_all g r) e = omega arith
-
-pub not-blank : (n : ℕ) (b : List ℕ) → is_row_bytes n b ≡ true → is_blank b ≡ false
-not-blank n [] t = refl
-not-blank n (x ∷ xs) t =
-    is_false _ (λ z. some-kind (row_of (x ∷ xs)) (first_byte n (row_of (x ∷ xs)) x xs t ∙ eqb-true x 0 (and_l (eqb x 0) _ z)))
 
 -- ── A row's bytes ─────────────────────────────────────────────────────────────────────────────────────────────────────
 

@@ -20,14 +20,6 @@ pub ok-other : (m x : ℕ) → (m ≡ 0 → ⊥) → ok_byte m x ≡ true
 ok-other zero x e = absurd (e refl)
 ok-other (suc m) x e = refl
 
-pub mask-zero : (m x : ℕ) → m ≡ 0 → masked m x ≡ 0
-mask-zero zero x e = refl
-mask-zero (suc m) x e = absurd (omega arith)
-
-pub mask-other : (m x : ℕ) → (m ≡ 0 → ⊥) → masked m x ≡ x
-mask-other zero x e = absurd (e refl)
-mask-other (suc m) x e = refl
-
 left : (i n : ℕ) → i < n → n - i ≡ suc (n - (i + 1))
 left i n h = omega arith
 

@@ -30,12 +30,13 @@ blank-zero bs e = ap (λ (l : List ℕ). get_or l 0 0) (eq_bytes-true bs (replic
 pub not-blank : (bs : List ℕ) → 1 ≤ get_or bs 0 0 → is_blank bs ≡ false
 not-blank bs h = is_false _ (λ e. let z = blank-zero bs e in omega arith)
 
-pub zero-not-row : (n : ℕ) (bs : List ℕ) → get_or bs 0 0 ≡ 0 → is_row_bytes n bs ≡ false
-zero-not-row n bs z =
-    is_false _ (λ e.
-    let k = row-not-zero n (row_of bs) in
+pub some-kind : (n : ℕ) (bs : List ℕ) → is_row_bytes n bs ≡ true → 1 ≤ get_or bs 0 0
+some-kind n bs e =
     let same : get_or bs 0 0 ≡ get_or (row_bytes n (row_of bs)) 0 0 = ap (λ (l : List ℕ). get_or l 0 0) (row-exact n bs e) in
-    omega arith)
+    rw same (row-not-zero n (row_of bs))
+
+pub zero-not-row : (n : ℕ) (bs : List ℕ) → get_or bs 0 0 ≡ 0 → is_row_bytes n bs ≡ false
+zero-not-row n bs z = is_false _ (λ e. let k = some-kind n bs e in omega arith)
 
 -- ── What is read, by the kind ─────────────────────────────────────────────────────────────────────────────────────────
 

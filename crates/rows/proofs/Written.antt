@@ -1,10 +1,8 @@
 -- What the writer's fill leaves of a row's fields is the row's bytes. Assumes nothing.
 use mathlib.Core.Path.{◌≡◌, refl, ap, ◌∙◌}
 use mathlib.Core.List.{List, [], ◌∷◌}
-use Prim.Native.Nat.{ℕ, ◌≤◌}
-use native.Mathlib.Omega.{arith}
+use Prim.Native.Nat.{ℕ}
 use lib.ListN.{length, get_or}
-use Rattle.book.specs.Limits.{kind_limit}
 use Rattle.book.specs.RowBytes.{may_be, row_bytes}
 use Rattle.rows.specs.Meaning.{meant}
 use Rattle.rows.specs.Table.{masked, fill}
@@ -12,15 +10,6 @@ use Rattle.rows.specs.Writing.{fields_of, field_bytes}
 use Rattle.rows.specs.declared.Row.{Row}
 use Rattle.rows.specs.declared.Row.TheVariants.{Begin, Change, HandOver, Undo, Commit, Abort, HandOverAll}
 use Rattle.rows.proofs.Sixteen.{sixteen}
-
-pub kind-known : (r : Row) → (fields_of r).kind ≤ kind_limit
-kind-known (Begin v) = omega arith
-kind-known (Change v c a) = omega arith
-kind-known (HandOver g r c) = omega arith
-kind-known (Undo h c n a) = omega arith
-kind-known (Commit v) = omega arith
-kind-known (Abort v) = omega arith
-kind-known (HandOverAll g r) = omega arith
 
 -- a fill of all 16 bytes leaves nothing of what was there
 abbrev all : ℕ → List ℕ → List ℕ

@@ -6,7 +6,7 @@ ghost use Rattle.rows.specs.Meaning.{meant};
 use crate::limits::{CELL_LIMIT, ROW_LIMIT, VISIT_LIMIT};
 use crate::{Cell, Lsn, Row, Visit};
 
-// The limits as numbers of the fields' types.
+// The limits as numbers of the fields' types. `try_from` is no constant function.
 pub const VISITS: u16 = VISIT_LIMIT as u16;
 
 const CELLS: u8 = CELL_LIMIT as u8;
