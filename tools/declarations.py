@@ -199,7 +199,7 @@ def read_function(path, text, found):
     return function
 
 
-TYPE = re.compile(r'(?m)^(?:#\[[^\]]*\]\s*)*(?:pub(?:\([a-z]+\))? )?(?:struct|enum|const) (\w+)')
+TYPE = re.compile(r'(?m)^(?:#\[[^\]]*\]\s*)*(?:pub(?:\([a-z]+\))? )?(?:struct|enum|const|type) (\w+)')
 CODE_USE = re.compile(r'(?m)^(?:pub )?use ([^;]*);')
 
 

@@ -159,11 +159,13 @@ def quoted(cell):
 
 def cases():
     """Each case of an answer in Rattle with its number, by the definition and by the code."""
-    by_definition = dict(re.findall(r'^number_and_value \(?(\w+).* = (?:refused_by |book\.answer |done )(.*)$', read('crates/state/specs/Answers.antt'), re.M))
-    by_definition = {case: 0 if rest.startswith(('(', 'z')) else int(rest.split()[0]) for case, rest in by_definition.items()}
-    by_code = {case: int(number) for case, number in re.findall(r'^        Answer::(\w+)(?:\(_\))? => (\d+),$', read('crates/state/src/answers.rt').partition('fn number_of')[2].partition('\n}')[0], re.M)}
+    definition, code = read('crates/state/specs/Answers.antt'), read('crates/state/src/answers.rt').partition('fn number_of')[2].partition('\n}')[0]
+    done = dict.fromkeys(['Done'] + re.findall(r'^done_value \(?(\w+)', definition, re.M), 0)
+    by_definition = {case: int(number) for case, number in re.findall(r'^refusal_answer \(?(\w+).* = (?:refused_by|book\.answer) (\d+)', definition, re.M)}
+    by_code = {case: int(number) for case, number in re.findall(r'^        Err\(Refusal::(\w+)(?:\(_\))?\) => (\d+),$', code, re.M)}
+    need('\n        Ok(_) => 0,\n' in code, 'state/src/answers.rt: a call that was done has another number than 0')
     need(by_definition and by_definition == by_code, 'state/specs/Answers and state/src/answers.rt have not the same numbers')
-    return by_definition
+    return done | by_definition
 
 
 def refusals():
