@@ -7,14 +7,14 @@ ghost use Rattle.book.specs.Pages.{page_of};
 ghost use Rattle.charts.specs.Checks.{is_sound};
 
 use crate::page::read_place;
-use rows::limits::PLACES;
+use rows::limits::{CHART_BOUND, PLACES};
 use rows::numbers::read16;
 
-// A number of grams within ±200,000,000, which an opening takes.
+// A number of grams that an opening takes.
 fn in_bounds(z: i32) -> bool
     ensures { result ≡ within chart_bound z }
 {
-    (-200_000_000..=200_000_000).contains(&z)
+    (-CHART_BOUND..=CHART_BOUND).contains(&z)
 }
 
 // Bytes 2 and 3 are zero, and every cell is in bounds.

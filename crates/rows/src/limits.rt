@@ -36,5 +36,8 @@ pub const TAIL_LIMIT: usize = 64;
 
 pub const TAIL_LENGTH: usize = TAIL_LIMIT * ROW_LENGTH;
 
+// A cell of an opened store is within plus and minus so many grams.
+pub const CHART_BOUND: i32 = 200_000_000;
+
 // No opening writes more rows.
 pub const COST_LIMIT: usize = 2048;

@@ -27,7 +27,7 @@ pub fn has_row_bytes(b: &[u8], n: Lsn) -> bool
     ensures { result ≡ is_row_bytes n.0 b.now }
 {
     let kind = usize::from(b[0]);
-    (1..=KIND_LIMIT).contains(&kind) && is_as_table(b, kind) && read16(b, 4) == n.0
+    (1..=KIND_LIMIT).contains(&kind) && is_as_table(b, kind) && Lsn(read16(b, 4)) == n
 }
 
 // The visit and the receiver, each by its low byte and its high one.

@@ -20,54 +20,56 @@ struct Fields {
     change: u16,
 }
 
-fn parts_of(row: Row) -> Fields
-    ensures { result ≡ fields_of row }
-{
-    let none = Fields::default();
-    match row {
-        Row::Begin(v) => Fields {
-            kind: 1,
-            visit: v.0,
-            ..none
-        },
-        Row::Change(v, c, x) => Fields {
-            kind: 2,
-            visit: v.0,
-            cell: c.0,
-            change: x.cast_unsigned(),
-            ..none
-        },
-        Row::HandOver(g, r, c) => Fields {
-            kind: 3,
-            visit: g.0,
-            receiver: r.0,
-            cell: c.0,
-            ..none
-        },
-        Row::Undo(h, c, n, x) => Fields {
-            kind: 4,
-            visit: h.0,
-            cell: c.0,
-            undone: n.0,
-            change: x.cast_unsigned(),
-            ..none
-        },
-        Row::Commit(v) => Fields {
-            kind: 5,
-            visit: v.0,
-            ..none
-        },
-        Row::Abort(v) => Fields {
-            kind: 6,
-            visit: v.0,
-            ..none
-        },
-        Row::HandOverAll(g, r) => Fields {
-            kind: 7,
-            visit: g.0,
-            receiver: r.0,
-            ..none
-        },
+impl From<Row> for Fields {
+    ghost from_gives = { λ row fields. fields ≡ fields_of row };
+
+    fn from(row: Row) -> Fields {
+        let none = Fields::default();
+        match row {
+            Row::Begin(v) => Fields {
+                kind: 1,
+                visit: v.0,
+                ..none
+            },
+            Row::Change(v, c, x) => Fields {
+                kind: 2,
+                visit: v.0,
+                cell: c.0,
+                change: x.cast_unsigned(),
+                ..none
+            },
+            Row::HandOver(g, r, c) => Fields {
+                kind: 3,
+                visit: g.0,
+                receiver: r.0,
+                cell: c.0,
+                ..none
+            },
+            Row::Undo(h, c, n, x) => Fields {
+                kind: 4,
+                visit: h.0,
+                cell: c.0,
+                undone: n.0,
+                change: x.cast_unsigned(),
+                ..none
+            },
+            Row::Commit(v) => Fields {
+                kind: 5,
+                visit: v.0,
+                ..none
+            },
+            Row::Abort(v) => Fields {
+                kind: 6,
+                visit: v.0,
+                ..none
+            },
+            Row::HandOverAll(g, r) => Fields {
+                kind: 7,
+                visit: g.0,
+                receiver: r.0,
+                ..none
+            },
+        }
     }
 }
 
@@ -107,5 +109,5 @@ pub fn write_row(b: &mut [u8], row: Row, n: Lsn)
     requires { length b.old ≡ row_length }
     ensures { b.new ≡ row_bytes n.0 (meant row) }
 {
-    put(b, parts_of(row), n);
+    put(b, Fields::from(row), n);
 }

@@ -1,5 +1,6 @@
 -- `rows::reader::has_row_bytes` meets its contract. Assumes nothing.
-use Rattle.std.proofs.Common.{arith, rules, ◌≤◌, ◌∙◌, sym}
+use Rattle.std.proofs.Common.{◌≡◌, eqb, arith, rules, ◌≤◌, ◌∙◌, sym}
+use Rattle.book.specs.Numbers.{number}
 use Rattle.book.proofs.Lists.{is_false}
 use Rattle.rows.proofs.ByTable.{known-kind, not-as-table, own-number}
 use Rattle.rows.proofs.reader.has_row_bytes.Goals.{then-contains, else-contains}
@@ -15,7 +16,8 @@ returns-then-is_as_table c =
           let from : 1 ≤ c.from-kind.result = search rules in
           let to : c.from-kind.result ≤ 7 = search rules in
           let table = sym w.is_as_table.ensures ∙ sym w.value-is ∙ c.if-is_as_table.true in
-          rw c.read16.ensures (own-number n b (omega arith) c.requires (λ i. (c.type_inv.b i).fits) (omega arith) (omega arith) (rw kind at table))
+          let own : c.eq.result ≡ eqb (number 2 b 4) n = search rules in
+          rw own (own-number n b (omega arith) c.requires (λ i. (c.type_inv.b i).fits) (omega arith) (omega arith) (rw kind at table))
       | else-contains w ↦ absurd (cc)
     ]
 

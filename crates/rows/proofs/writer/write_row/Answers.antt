@@ -4,5 +4,5 @@ use Rattle.rows.proofs.writer.write_row.Goals as goal
 
 pub returns : goal.returns
 returns c =
-    rw (c.put.ensures, c.parts_of.ensures)
+    rw (c.put.ensures, c.from.ensures)
     (written c.args.row c.args.n.0 c.args.b.now c.requires)
