@@ -1,53 +1,43 @@
--- Numbers in base ten: the last digit apart from those before it, and how long numbers and lines are. Assumes nothing.
-use mathlib.Core.Path.{◌≡◌, ap, sym}
+-- Numbers in base ten: that std prints them so, and how long numbers and lines are. Assumes nothing.
+use mathlib.Core.Path.{◌≡◌, refl, ap, ◌∙◌}
 use mathlib.Core.Bool.{Bool, true, false, cond}
 use mathlib.Core.List.{List, [], ◌∷◌, ◌++◌}
-use Prim.Native.Nat.{ℕ, zero, suc, ◌+◌, ◌/◌, ◌%◌, ◌^◌, ◌≤◌, ◌<◌}
+use Prim.Native.Nat.{ℕ, zero, suc, ◌/◌, ◌%◌, ◌^◌, ◌≤◌, ◌<◌}
 use native.Mathlib.Nat.{pow-suc}
 use native.Mathlib.Omega.{arith}
-use borrow.Author.Tests.{lt-ltb, le-ltb}
+use borrow.Author.Tests.{lt-ltb, ltb-true, ltb-false}
 use lib.Dec.{ltb}
 use lib.IntN.{ℤ, pos, negsuc}
-use lib.ListN.{length, set, length-append}
+use lib.ListN.{length, length-append}
 use mir.Syntax.{w32}
 use mir.Val.{SFits}
-use Rattle.book.specs.Book.{answer}
-use Rattle.run_lines.specs.Lines.{digit, digits_of, decimal, signed_decimal, line}
-use Rattle.run_lines.specs.Output.{Written, line_length}
-use Rattle.run_lines.proofs.Writings.{written_byte, written_after}
+use Rattle.std.specs.Fmt as std
+use Rattle.std.proofs.lemmas.Fmt.{decimal_digit, decimal_step}
+use Rattle.book.specs.Writes.{Few}
+use Rattle.run_lines.specs.Lines.{digit, digits_of, decimal, signed_decimal}
 
--- digits beyond those of the number are not written
-enough : (k n : ℕ) → n < 10 ^ suc k → digits_of (suc k) n ≡ digits_of k n
-enough zero n h =
+-- std's text of a number, digit by digit from the last
+by-digits : (k n : ℕ) → n < 10 ^ suc k → n < 2 ^ 32 → std.decimal n ≡ digits_of k n
+by-digits zero n h b =
     let small : n < 10 = omega (arith, pow-suc 10 0) in
-    let same : n ≡ n % 10 = omega arith in rw (lt-ltb n 10 small) (ap (λ (d : ℕ). digit d ∷ []) same)
-enough (suc k) n h =
-    let less : n / 10 < 10 ^ suc k = omega (arith, pow-suc 10 (suc k)) in
-    ap (λ (ds : List ℕ). cond (ltb n 10) (digit n ∷ []) (ds ++ (digit (n % 10) ∷ []))) (enough k (n / 10) less)
+    let same : n ≡ n % 10 = omega arith in
+    decimal_digit n small ∙ ap (λ (d : ℕ). digit d ∷ []) same
+by-digits (suc k) n h b = go (ltb n 10) refl (by-digits k (n / 10) (omega (arith, pow-suc 10 (suc k))) (omega arith))
+  where
+    go : (t : Bool) → ltb n 10 ≡ t → std.decimal (n / 10) ≡ digits_of k (n / 10)
+        → std.decimal n ≡ cond t (digit n ∷ []) (digits_of k (n / 10) ++ (digit (n % 10) ∷ []))
+    go true e before = decimal_digit n (ltb-true n 10 e)
+    go false e before = decimal_step n (ltb-false n 10 e) (omega arith) ∙ ap (λ (ds : List ℕ). ds ++ (digit (n % 10) ∷ [])) before
 
--- one digit
-pub decimal-one : (n : ℕ) → n < 10 → decimal n ≡ digit n ∷ []
+-- what is printed is the number in base ten
+pub decimal_printed : (n : ℕ) → n < 2 ^ 32 → std.decimal n ≡ decimal n
 unfolding decimal
-decimal-one n h = rw (lt-ltb n 10 h)
+decimal_printed n h = by-digits 9 n (omega arith) h
 
--- the digits before the last, and the last
-decimal-more : (n : ℕ) → 10 ≤ n → n < 2 ^ 32 → decimal n ≡ decimal (n / 10) ++ (digit (n % 10) ∷ [])
-unfolding decimal
-decimal-more n h b = rw (le-ltb n 10 h) (ap (λ (ds : List ℕ). ds ++ (digit (n % 10) ∷ [])) (sym (enough 8 (n / 10) (omega arith))))
-
-pub decimal-longer : (n : ℕ) → 10 ≤ n → n < 2 ^ 32 → length (decimal n) ≡ suc (length (decimal (n / 10)))
-decimal-longer n h b = rw (decimal-more n h b) (omega (arith, length-append (decimal (n / 10)) (digit (n % 10) ∷ [])))
-
--- one digit written, and the last digit written after those before it
-module _ (n at : ℕ) (out : List ℕ) (room : at + length (decimal n) ≤ length out) where
-  pub one_written : {d : ℕ} → n < 10 → d ≡ digit n → Written out at (decimal n) (at + 1) (set out at d)
-  one_written h e = let one = ap length (decimal-one n h) in rw (decimal-one n h, e) (written_byte out at (digit n) (omega arith))
-
-  pub last_written : {end d : ℕ} {before : List ℕ} → 10 ≤ n → n < 2 ^ 32 → end < length before → Written out at (decimal (n / 10)) end before → d ≡ digit (n % 10)
-      → Written out at (decimal n) (end + 1) (set before end d)
-  last_written {end} {d} {before} h b inside w e =
-      let longer = decimal-longer n h b in
-      rw (decimal-more n h b, e) (written_after out at (decimal (n / 10)) (digit (n % 10) ∷ []) (omega arith) w (written_byte before end (digit (n % 10)) inside))
+pub signed_printed : (z : ℤ) → SFits w32 z → std.signed_decimal z ≡ signed_decimal z
+unfolding signed_decimal
+signed_printed (pos n) h = decimal_printed n (omega (arith, h.sfits))
+signed_printed (negsuc n) h = ap (λ (ds : List ℕ). 45 ∷ ds) (decimal_printed (suc n) (omega (arith, h.sfits)))
 
 -- a number below a power of ten has no more digits than that
 digits-length : (k j n : ℕ) → n < 10 ^ suc j → length (digits_of k n) ≤ suc j
@@ -70,15 +60,22 @@ unfolding signed_decimal
 signed-length (pos n) h = omega (arith, decimal-length 9 n (omega (arith, h.sfits)))
 signed-length (negsuc n) h = omega (arith, decimal-length 9 (suc n) (omega (arith, h.sfits)))
 
--- the lengths of a line's parts
-module _ (session call number : ℕ) (value : ℤ) (rows pages : ℕ) where
-  pub line-parts : length (line session call (answer number value) (record { rows = rows; pages = pages })) ≡
-      length (decimal session) + suc (length (decimal call)) + suc (length (decimal number)) + suc (length (signed_decimal value)) +
-      suc (length (decimal rows)) + suc (suc (length (decimal pages)))
-  unfolding line
-  line-parts = simp length-append (omega arith)
+-- the parts of a line are no longer than `line_length` allows
+pub record PartsFit (session call number : ℕ) (value : ℤ) (rows pages : ℕ) : Type 0 where
+  pub session_fits : length (decimal session) ≤ 5
+  pub call_fits : length (decimal call) ≤ 5
+  pub number_fits : length (decimal number) ≤ 3
+  pub value_fits : length (signed_decimal value) ≤ 11
+  pub rows_fit : length (decimal rows) ≤ 4
+  pub pages_fit : length (decimal pages) ≤ 1
 
-  pub line-length : session < 100000 → call < 100000 → number < 1000 → SFits w32 value → rows < 10000 → pages < 10
-      → length (line session call (answer number value) (record { rows = rows; pages = pages })) ≤ line_length
-  line-length s c n v r p =
-      omega (arith, line-parts, decimal-length 4 session s, decimal-length 4 call c, decimal-length 2 number n, signed-length value v, decimal-length 3 rows r, decimal-length 0 pages p)
+pub parts_fit : {session call number : ℕ} {value : ℤ} {rows pages : ℕ} → session < 65536 → call < 65536 → number < 256 → SFits w32 value
+    → Few (record { rows = rows; pages = pages }) → PartsFit session call number value rows pages
+parts_fit {session} {call} {number} {value} {rows} {pages} s c n v few = record {
+  session_fits = decimal-length 4 session (omega arith);
+  call_fits = decimal-length 4 call (omega arith);
+  number_fits = decimal-length 2 number (omega arith);
+  value_fits = signed-length value v;
+  rows_fit = decimal-length 3 rows (omega arith);
+  pages_fit = decimal-length 0 pages (omega arith);
+}

@@ -1,12 +1,12 @@
--- Text written byte by byte, and text written after text. Assumes nothing.
+-- A byte written, and text written after text. Assumes nothing.
 use mathlib.Core.Path.{◌≡◌, ap, sym, ◌∙◌}
 use mathlib.Core.List.{List, [], ◌∷◌, ◌++◌}
 use Prim.Native.Nat.{ℕ, suc, ◌+◌, ◌≤◌, ◌<◌}
-use native.Mathlib.Numerals.{add-one}
 use native.Mathlib.Omega.{arith}
-use lib.ListN.{length, set, length-append, length-set}
+use lib.ListN.{length, set, length-append}
 use lib.Seq.{sets, sets-eq, length-sets}
-use Rattle.run_lines.specs.Output.{Written}
+use Rattle.run_lines.specs.declared.line.Output.{Output}
+use Rattle.run_lines.specs.Output.{Written, Puts}
 
 -- bytes stored in two steps, the second after the first
 sets-append : (xs ys out : List ℕ) (at : ℕ) → sets (sets out at xs) (at + length xs) ys ≡ sets out at (xs ++ ys)
@@ -24,16 +24,6 @@ module _ (out : List ℕ) (at : ℕ) where
   pub written_byte : (x : ℕ) → at < length out → Written out at (x ∷ []) (at + 1) (set out at x)
   written_byte x h = record { place = omega arith; is = sets-eq (x ∷ []) out at (omega arith) }
 
-  -- a byte, and text after it
-  pub written-first : (x : ℕ) (xs : List ℕ) {end : ℕ} {after : List ℕ} → at + suc (length xs) ≤ length out → Written (set out at x) (at + 1) xs end after
-      → Written out at (x ∷ xs) end after
-  written-first x xs room w =
-      let long = length-set out at x in
-      record {
-        place = omega arith;
-        is = w.is ∙ sym (sets-eq xs (set out at x) (at + 1) (omega arith)) ∙ ap (λ (i : ℕ). sets (set out at x) i xs) (add-one at) ∙ sets-eq (x ∷ xs) out at room;
-      }
-
   -- text after text
   pub written_after : (xs ys : List ℕ) {mid end : ℕ} {before after : List ℕ} → at + (length xs + length ys) ≤ length out
       → Written out at xs mid before → Written before mid ys end after → Written out at (xs ++ ys) end after
@@ -47,3 +37,17 @@ module _ (out : List ℕ) (at : ℕ) where
             w.is ∙ sym (sets-eq ys before mid (omega arith)) ∙ rw (stored, v.place) (sets-append xs ys out at) ∙
             sets-eq (xs ++ ys) out at (omega arith);
       }
+
+-- the same of an output
+pub puts_after : {o p q : Output} {xs ys : List ℕ} → Puts o xs p → Puts p ys q → Puts o (xs ++ ys) q
+puts_after {o} {p} {q} {xs} {ys} v w =
+    let a = v.written.place in
+    let b = w.written.place in
+    let k = v.kept in
+    let l = w.kept in
+    let h = w.within in
+    record {
+      written = written_after o.bytes.now o.at xs ys (omega arith) v.written w.written;
+      within = h;
+      kept = l ∙ k;
+    }
