@@ -7,6 +7,7 @@ use mathlib.Core.Bool.{Bool, true, false, cond}
 use mathlib.Core.List.{List, [], ◌∷◌, map}
 use lib.ListN.{length, get_or, set}
 use lib.IntN.{ℤ}
+use Rattle.std.specs.Prelude.{Option, Some, None}
 use Rattle.book.specs.Rows.{Row}
 use Rattle.book.specs.Ledger.{Change, Ledger}
 use Rattle.book.specs.Rules.{open_held, allowed}
@@ -18,8 +19,6 @@ use Rattle.book.proofs.Steps.{extends-all}
 use Rattle.book.proofs.NextUndo.{undo-allowed, undo-next}
 use Rattle.tables_model.specs.declared.Tables.{Tables}
 use Rattle.tables_model.specs.declared.Whom.{Whom}
-use Rattle.tables_model.specs.declared.Found.{Found}
-use Rattle.tables_model.specs.declared.Found.TheVariants.{At, Nothing}
 use Rattle.tables_model.specs.Visits.{with_undo}
 use Rattle.tables_model.specs.Table.{covers, highest, lowered}
 use Rattle.tables_model.specs.Meaning.{tables_of, scope_table}
@@ -53,10 +52,10 @@ module _ (cells : ℕ → ℤ) (w : Whom) (used : ℕ) where
     found : HighestOpen (rows_of b) w x
     found = highest-open (rows_of b) w s.allowed x xs e
 
-    next-is : next_to_fall w used t ≡ At found.at
+    next-is : next_to_fall w used t ≡ Some found.at
     unfolding next_to_fall
     next-is =
-        ap (λ (r : Bool). cond r (highest w used t.scopes) Nothing) (ap is_running st.ram.journal ∙ running b ∙ o) ∙
+        ap (λ (r : Bool). cond r (highest w used t.scopes) None) (ap is_running st.ram.journal ∙ running b ∙ o) ∙
         ap₂ (highest w) (st.used o) (st.scopes o) ∙
         found.is
 
@@ -103,10 +102,10 @@ module _ (cells : ℕ → ℤ) (w : Whom) (used : ℕ) where
 
   -- nothing falls where nothing is open
   none-next : (b : Book) → Steady b → b.is_open ≡ true → open_held (covers w) (ledger_of b) ≡ [] → (t : Taking) → TakingStands cells used b t
-      → next_to_fall w used t ≡ Nothing
+      → next_to_fall w used t ≡ None
   unfolding next_to_fall
   none-next b s o e t st =
-      ap (λ (r : Bool). cond r (highest w used t.scopes) Nothing) (ap is_running st.ram.journal ∙ running b ∙ o) ∙
+      ap (λ (r : Bool). cond r (highest w used t.scopes) None) (ap is_running st.ram.journal ∙ running b ∙ o) ∙
       ap₂ (highest w) (st.used o) (st.scopes o) ∙
       nothing-open (rows_of b) w s.allowed e
 
@@ -114,7 +113,7 @@ module _ (cells : ℕ → ℤ) (w : Whom) (used : ℕ) where
   closed-stays : (m : ℕ) (t : Taking) → is_running t.ram.journal ≡ false → fall_all m w used t ≡ t
   unfolding fall_all next_to_fall
   closed-stays zero t e = refl
-  closed-stays (suc m) t e = ap (λ (r : Bool). fall_next (cond r (highest w used t.scopes) Nothing) t (fall_all m w used)) e
+  closed-stays (suc m) t e = ap (λ (r : Bool). fall_next (cond r (highest w used t.scopes) None) t (fall_all m w used)) e
 
   closed-falls : (m : ℕ) (b : Book) → Steady b → b.is_open ≡ false → (rs : List Row) (t : Taking) → TakingStands cells used b t
       → TakingStands cells used (add_all b rs) (fall_all m w used t)
@@ -130,7 +129,7 @@ module _ (cells : ℕ → ℤ) (w : Whom) (used : ℕ) where
   changes-fall (suc m) b s [] e h t st = go b.is_open refl
     where
       go : (r : Bool) → b.is_open ≡ r → TakingStands cells used b (fall_all (suc m) w used t)
-      go true o = subst (TakingStands cells used b) (sym (ap (λ (f : Found). fall_next f t (fall_all m w used)) (none-next b s o (e o) t st))) st
+      go true o = subst (TakingStands cells used b) (sym (ap (λ (f : Option ℕ). fall_next f t (fall_all m w used)) (none-next b s o (e o) t st))) st
       go false o = closed-falls (suc m) b s o [] t st
   changes-fall (suc m) b s (x ∷ xs) e h t st = go b.is_open refl (changes-fall m (add b (undo_of x)))
     where
@@ -142,7 +141,7 @@ module _ (cells : ℕ → ℤ) (w : Whom) (used : ℕ) where
       go true o rest =
           let at = (found b s o x xs (e o) t st).at in
           subst (TakingStands cells used (add_all b (map undo_of (x ∷ xs))))
-          (sym (ap (λ (f : Found). fall_next f t (fall_all m w used)) (next-is b s o x xs (e o) t st)))
+          (sym (ap (λ (f : Option ℕ). fall_next f t (fall_all m w used)) (next-is b s o x xs (e o) t st)))
           (rest (steady-add b s (undo_of x) (λ q. undo-ok b s o x xs (e o) t st)) xs (fallen-left b s o x xs (e o) t st) (omega arith)
           (fallen at t) (fallen-stands b s o x xs (e o) t st))
       go false o rest = closed-falls (suc m) b s o (map undo_of (x ∷ xs)) t st

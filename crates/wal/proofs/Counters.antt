@@ -5,10 +5,9 @@ use mathlib.Core.Path.{◌≡◌, refl, ◌∙◌}
 use mathlib.Core.Bool.{Bool, true, false, cond}
 use lib.Dec.{ltb}
 use borrow.Author.Tests.{ltb-true}
+use Rattle.std.specs.Prelude.{Option, Some, None}
 use Rattle.book.specs.Rows.{Row}
 use Rattle.tables_model.specs.declared.Whom.{Whom}
-use Rattle.tables_model.specs.declared.Found.{Found}
-use Rattle.tables_model.specs.declared.Found.TheVariants.{At, Nothing}
 use Rattle.state.specs.declared.ram.Phase.{Phase}
 use Rattle.state.specs.declared.ram.Phase.TheVariants.{Open, Closed}
 use Rattle.journal.specs.declared.Control.{Control}
@@ -58,6 +57,6 @@ unfolding fall_all
 counters-fall_all zero w used t h = h
 counters-fall_all (suc m) w used t h = go (next_to_fall w used t) (λ i. counters-fall_all m w used (fallen i t) (counters-fallen i t h))
   where
-    go : (f : Found) → ((i : ℕ) → Counters (fall_all m w used (fallen i t)).ram.journal.control) → Counters (fall_next f t (fall_all m w used)).ram.journal.control
-    go (At i) k = k i
-    go Nothing k = h
+    go : (f : Option ℕ) → ((i : ℕ) → Counters (fall_all m w used (fallen i t)).ram.journal.control) → Counters (fall_next f t (fall_all m w used)).ram.journal.control
+    go (Some i) k = k i
+    go None k = h

@@ -1,20 +1,30 @@
 -- A row looked up by its number, a change told by three bytes of its row, and the search downwards for the change before another. Assumes nothing.
-use Prim.Native.Nat.{ℕ, zero, suc, ◌+◌, ◌-◌, ◌≤◌, ◌<◌}
+use Prim.Native.Nat.{ℕ, zero, suc, ◌+◌, ◌-◌, ◌≤◌, ◌<◌, min, max}
 use native.Mathlib.Omega.{arith}
-use native.Mathlib.Nat.{add-zero, sub-zero}
-use mathlib.Core.Path.{◌≡◌, refl, sym, ◌∙◌}
+use native.Mathlib.Nat.{add-zero, sub-zero, min-eq_left, min-eq_right}
+use mathlib.Core.Path.{◌≡◌, refl, ap, sym, ◌∙◌}
 use mathlib.Core.Bool.{Bool, true, false, cond, ◌&&◌, and-true, and-false, and_comm}
 use mathlib.Core.List.{List}
 use lib.ListN.{get_or}
 use lib.IntN.{ℤ}
 use lib.Dec.{eqb, leb}
 use borrow.Author.Tests.{le-leb, lt-leb, ne_eqb, leb-true, leb-false}
+use Rattle.std.specs.Prelude.{Option, Some, None}
+use Rattle.std.specs.Option.{UnwrapsOrElse}
 use Rattle.book.specs.Rows.{Row, begin}
 use Rattle.book.specs.RowBytes.{pair, row_of, row_of_kind}
 use Rattle.tables_model.specs.Lookup.{is_change_by, previous}
 use Rattle.journal.specs.Journal.{Journal}
-use Rattle.wal.specs.Looking.{row_bytes_at, row_of_part, look_up}
+use Rattle.rows.specs.declared.Lsn.{Lsn}
+use Rattle.wal.specs.Looking.{row_bytes_at, row_of_part, look_up, row_or_0}
 use Rattle.wal.specs.Writing.{row_count}
+
+-- ── A row that was found, or none ─────────────────────────────────────────────────────────────────────────────────────
+
+-- its number, or 0 where no row is
+pub or-zero : (o : Option Lsn) (P : Lsn → Type 0) → ((l : Lsn) → P l → l.0 ≡ 0) → (n : Lsn) → UnwrapsOrElse o P n → n.0 ≡ row_or_0 o
+or-zero (Some m) P d n u = ap (λ (l : Lsn). l.0) u
+or-zero None P d n u = d n u
 
 -- ── A row ─────────────────────────────────────────────────────────────────────────────────────────────────────────────
 
@@ -100,14 +110,32 @@ module _ (look : ℕ → Row) (maker cell first : ℕ) where
 -- ── The search in a part ──────────────────────────────────────────────────────────────────────────────────────────────
 
 module _ (b : List ℕ) (base rows maker cell first : ℕ) where
+  abbrev look : ℕ → Row
+  look = row_of_part b base rows
+
   -- it may begin behind the part's last row
-  pub begins-behind : (n : ℕ) → base + rows < n
-      → previous (row_of_part b base rows) maker cell first n ≡ previous (row_of_part b base rows) maker cell first (base + rows + 1)
-  begins-behind n h = skips (row_of_part b base rows) maker cell first (base + rows + 1) n (omega arith) (λ k lo hi. rw (behind-part b base rows k (omega arith)))
+  pub begins-at : (n : ℕ) → previous look maker cell first n ≡ previous look maker cell first (min n (base + rows + 1))
+  begins-at n = go (leb n (base + rows + 1)) refl
+    where
+      go : (t : Bool) → leb n (base + rows + 1) ≡ t → previous look maker cell first n ≡ previous look maker cell first (min n (base + rows + 1))
+      go true e = let h = leb-true n (base + rows + 1) e in rw (min-eq_left h)
+      go false e =
+          let h = leb-false n (base + rows + 1) e in
+          let behind = skips look maker cell first (base + rows + 1) n (omega arith) (λ k lo hi. rw (behind-part b base rows k (omega arith))) in
+          let k : base + rows + 1 ≤ n = omega arith in rw (min-eq_right k) behind
 
   -- it may stop at the part's first row
-  pub stops-before : (n : ℕ) → n ≤ base + 1 → previous (row_of_part b base rows) maker cell first n ≡ 0
-  stops-before n h = skips (row_of_part b base rows) maker cell first 0 n (omega arith) (λ k lo hi. rw (before-part b base rows k (omega arith)))
+  pub stops-before : (n : ℕ) → n ≤ base + 1 → previous look maker cell first n ≡ 0
+  stops-before n h = skips look maker cell first 0 n (omega arith) (λ k lo hi. rw (before-part b base rows k (omega arith)))
+
+  pub ends-at : (n : ℕ) → n ≤ max first (base + 1) → previous look maker cell first n ≡ 0
+  ends-at n h = go (leb n (base + 1)) refl
+    where
+      go : (t : Bool) → leb n (base + 1) ≡ t → previous look maker cell first n ≡ 0
+      go true e = stops-before n (leb-true n (base + 1) e)
+      go false e =
+          let k = leb-false n (base + 1) e in
+          stops look maker cell first n (omega arith)
 
 -- ── The search in the tail, then in the log ───────────────────────────────────────────────────────────────────────────
 

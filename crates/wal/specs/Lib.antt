@@ -1,3 +1,4 @@
 pub mod Writing
 pub mod Looking
 pub mod TakeBack
+pub mod Arrays

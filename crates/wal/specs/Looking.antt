@@ -1,8 +1,9 @@
 -- A row is looked up where it stands, in the log or in the tail.
-use Rattle.std.specs.Prelude.{ℕ, ◌+◌, ◌-◌, ◌*◌, ◌≤◌, cond, ◌&&◌, List, take, drop, leb}
+use Rattle.std.specs.Prelude.{ℕ, ◌+◌, ◌-◌, ◌*◌, ◌≤◌, cond, ◌&&◌, List, take, drop, leb, Option, Some, None}
 use Rattle.book.specs.Limits.{row_limit, row_length}
 use Rattle.book.specs.Rows.{Row}
 use Rattle.book.specs.RowBytes.{row_of}
+use Rattle.rows.specs.declared.Lsn.{Lsn}
 use Rattle.journal.specs.Journal.{Journal}
 use Rattle.wal.specs.Writing.{row_count}
 
@@ -28,3 +29,8 @@ row_of_part bs base rows n = cond (leb 1 (n - base) && leb (n - base) rows) (row
 pub record Part (size base rows : ℕ) : Type 0 where
   pub long : row_length * rows ≤ size
   pub few : base + rows ≤ row_limit
+
+-- the number of the row that was found, 0 for none
+abbrev pub row_or_0 : Option Lsn → ℕ
+row_or_0 (Some n) = n.0
+row_or_0 None = 0

@@ -1,12 +1,11 @@
 // Open changes fall, highest row first, each by an undo row. The scope table says which is next; only the rows that its scopes cover are looked at.
-ghost use Rattle.std.specs.Prelude.{◌≡◌, cond, ◌+◌, ◌<◌, ◌≤◌, length};
+ghost use Rattle.std.specs.Prelude.{◌≡◌, cond, ◌+◌, ◌<◌, ◌≤◌, length, None};
 ghost use Rattle.book.specs.Limits.{scope_limit};
 ghost use Rattle.rows.specs.Meaning.{meant};
 ghost use Rattle.tables_model.specs.Layout.{flat_length, entries};
 ghost use Rattle.wal.specs.Writing.{Fits};
 ghost use Rattle.state.specs.World.{is_open_phase};
 ghost use Rattle.tables_model.specs.Table.{highest as highest_in};
-ghost use Rattle.tables_model.specs.declared.Found.TheVariants.{Nothing};
 ghost use Rattle.wal.specs.TakeBack.{taking, undo_row, fallen, fall_all, Reach};
 
 use crate::look::{before_last, row_at};
@@ -17,20 +16,16 @@ use state::ram::Phase;
 use tables::entries::entry_at;
 use tables::lookup::highest;
 use tables::updates::undo_at;
-use tables_model::{Found, Whom};
+use tables_model::Whom;
 
 // The undo row of row n: cell and change as first logged.
 fn undo_row(holder: Visit, n: Lsn, row: Row) -> Row
     ensures { meant result ≡ undo_row holder.0 n.0 (meant row) }
 {
-    match row {
-        Row::Begin(_) => Row::Undo(holder, Cell(0), n, 0),
-        Row::Change(_, c, a) => Row::Undo(holder, c, n, a),
-        Row::HandOver(_, _, _) => Row::Undo(holder, Cell(0), n, 0),
-        Row::Undo(_, _, _, _) => Row::Undo(holder, Cell(0), n, 0),
-        Row::Commit(_) => Row::Undo(holder, Cell(0), n, 0),
-        Row::Abort(_) => Row::Undo(holder, Cell(0), n, 0),
-        Row::HandOverAll(_, _) => Row::Undo(holder, Cell(0), n, 0),
+    if let Row::Change(_, cell, amount) = row {
+        Row::Undo(holder, cell, n, amount)
+    } else {
+        Row::Undo(holder, Cell(0), n, 0)
     }
 }
 
@@ -48,23 +43,20 @@ fn fall(
         ≡ fallen i (taking c log.old tail.old copy.old scopes.old) }
 {
     let s = entry_at(scopes, i);
-    let holder = s.holder;
-    let last = s.last;
-    let row = row_at(c, log, tail, last.0 as usize);
+    let row = row_at(c, log, tail, usize::from(s.last.0));
     let before = before_last(c, log, tail, s);
-    undo_at(scopes, i, Lsn(before as u16));
-    write(c, log, tail, copy, undo_row(holder, last, row))
+    undo_at(scopes, i, before.unwrap_or_default());
+    write(c, log, tail, copy, undo_row(s.holder, s.last, row))
 }
 
 // The entry whose last change falls next; none once the journal is closed.
-fn next_to_fall(c: Control, scopes: &[u16], used: usize, w: Whom) -> Found
+fn next_to_fall(c: Control, scopes: &[u16], used: usize, w: Whom) -> Option<usize>
     requires { (length scopes.now ≡ flat_length) × (used ≤ scope_limit) }
-    ensures { (result ≡ cond (is_open_phase c.phase) (highest_in w used (entries scopes.now)) Nothing) × Reach result }
+    ensures { (result ≡ cond (is_open_phase c.phase) (highest_in w used (entries scopes.now)) None) × Reach result }
 {
-    let phase = c.phase;
-    match phase {
+    match c.phase {
         Phase::Open => highest(scopes, used, w),
-        Phase::Closed => Found::Nothing,
+        Phase::Closed => None,
     }
 }
 
@@ -84,13 +76,11 @@ pub fn take_back(
 {
     let most = c.stored + c.waiting;
     let mut d = c;
-    let mut n: usize = 0;
-    while n < most {
-        let Found::At(i) = next_to_fall(d, scopes, used, w) else {
+    for _n in 0..most {
+        let Some(i) = next_to_fall(d, scopes, used, w) else {
             return d;
         };
         d = fall(d, log, tail, copy, scopes, i);
-        n += 1;
     }
     d
 }

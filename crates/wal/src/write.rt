@@ -28,13 +28,9 @@ pub fn write(c: Control, log: &mut [u8], tail: &mut [u8], copy: &mut [u8], row: 
         ≡ written (ram c log.old tail.old copy.old) (meant row) }
 {
     let d = append(c, log, tail, row);
-    let phase = d.phase;
-    match phase {
-        Phase::Closed => {
-            return d;
-        }
-        Phase::Open => {}
-    }
+    let Phase::Open = d.phase else {
+        return d;
+    };
     let n = Lsn((d.stored + d.waiting) as u16);
     apply_row(copy, row, n);
     d

@@ -3,12 +3,12 @@ use Rattle.journal.specs.Journal.{journal}
 use Rattle.wal.proofs.LookUps.{log-here, tail-here}
 use Rattle.wal.proofs.look.row_at.Goals as goal
 
-pub returns-then-n-stored : goal.returns-then-n-stored
-returns-then-n-stored c =
+pub returns-then-n-c : goal.returns-then-n-c
+returns-then-n-c c =
     let a = c.args in
-    rw (log-here (journal a.c a.log.now a.tail.now) a.n c.if-n-stored.true) c.row_of_part.ensures
+    rw (log-here (journal a.c a.log.now a.tail.now) a.n c.if-n-c.true) c.row_of_part.ensures
 
-pub returns : goal.returns
-returns c =
+pub returns-else-n-c : goal.returns-else-n-c
+returns-else-n-c c =
     let a = c.args in
-    rw (tail-here (journal a.c a.log.now a.tail.now) a.n c.if-n-stored.false) c.row_of_part-2.ensures
+    rw (tail-here (journal a.c a.log.now a.tail.now) a.n c.if-n-c.false) c.row_of_part-else-n-c.ensures

@@ -6,9 +6,9 @@ use Rattle.wal.specs.Writing.{written}
 use Rattle.wal.proofs.Counters.{counters, counters-appended}
 use Rattle.wal.proofs.write.write.Goals as goal
 
-pub returns-in-Closed : goal.returns-in-Closed
+pub returns-in_default : goal.returns-in_default
 unfolding written
-returns-in-Closed c = rw (← c.append-d.ensures, c.in-Closed.is)
+returns-in_default c = rw (← c.append-d.ensures, c.in_default.is)
 
 pub overflow_add-n : goal.overflow_add-n
 overflow_add-n c =
