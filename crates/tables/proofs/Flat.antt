@@ -44,6 +44,9 @@ pub entries_at : (t : List ℕ) (i : ℕ) → i < 64 → get_or (entries t) i un
 unfolding entries
 entries_at t i h = tabulate-at 64 0 i (entry_at t) unused h ∙ rw zero-add
 
+-- what a function that reads entries goes by
+pub ruleset entries_read = (entries_at, entries-length)
+
 pub entries-zero : (n : ℕ) → n ≡ 448 → entries (replicate n 0) ≡ replicate 64 unused
 unfolding entries
 entries-zero n e = rw e
@@ -124,6 +127,9 @@ pub cleared : (t x : List ℕ) (a : ℕ) → let part = take (length t - a) (dro
 cleared t x a e =
     let none : drop (length t - a) (drop a t) ≡ [] = drop_of_length-le (drop a t) {i = length t - a} (simp length-drop (omega arith)) in
     rw (e, none, append-nil)
+
+-- what a function that clears the rest of the table goes by
+pub ruleset entries_cleared = (cleared, entries-cut)
 
 -- ── Seven stores ──────────────────────────────────────────────────────────────────────────────────────────────────────
 

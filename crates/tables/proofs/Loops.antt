@@ -19,6 +19,9 @@ module _ {A : Type 0} where
   pub left_end : (n i : ℕ) (l : List A) → n ≤ i → left n i l ≡ []
   left_end n i l h = let w : length (take n l) ≤ i = simp length-take (omega arith) in drop_of_length-le (take n l) w
 
+  -- what the turns and the end of a loop that looks go by
+  pub ruleset looking = (left-next, left_end)
+
   -- ── Rewriting each place ────────────────────────────────────────────────────────────────────────────────────────────
 
   -- the first n places rewritten

@@ -3,7 +3,7 @@ use Rattle.std.proofs.Common.{◌≡◌, ℕ, ◌+◌, ◌*◌, ◌<◌, Bool, �
 use Rattle.tables_model.specs.Entries.{flag}
 use Rattle.tables_model.specs.Layout.{active_at, actives}
 use Rattle.tables_model.specs.Meaning.{vacant}
-use Rattle.tables.proofs.Flat.{tabulate-length, tabulate-at, tabulate-set, places-cut, handed-back}
+use Rattle.tables.proofs.Flat.{tabulate-length, tabulate-at, tabulate-set, places-cut, cleared, handed-back}
 use Rattle.book.specs.Lists.{pad_to}
 
 pub actives-length : (vs : List ℕ) → length (actives vs) ≡ 16
@@ -14,6 +14,9 @@ pub actives-at : (vs : List ℕ) (i : ℕ) → i < 16 → get_or (actives vs) i 
 unfolding actives
 actives-at vs i h = tabulate-at 16 0 i (active_at vs) vacant h ∙ rw zero-add
 
+-- what a function that reads places goes by
+pub ruleset places_read = (actives-at, actives-length)
+
 pub actives-zero : (n : ℕ) → n ≡ 32 → actives (replicate n 0) ≡ replicate 16 vacant
 unfolding actives
 actives-zero n e = rw e
@@ -22,6 +25,9 @@ actives-zero n e = rw e
 pub actives-cut : (vs : List ℕ) (k n : ℕ) → k ≤ 16 → length vs ≡ 32 → actives (take (2 * k) vs ++ replicate n 0) ≡ pad_to 16 vacant (take k (actives vs))
 unfolding actives
 actives-cut = places-cut active_at vacant 2 16 (λ t u i h. rw (rw add-zero at (h 0 (omega arith)), h 1 (omega arith))) (λ t i h. rw (rw add-zero at (h 0), h 1))
+
+-- what a function that vacates the rest of the places goes by
+pub ruleset places_cleared = (cleared, actives-cut)
 
 -- two numbers set, the second behind the first
 abbrev pub pair : List ℕ → ℕ → ℕ → ℕ → List ℕ

@@ -1,6 +1,5 @@
--- Turns of the searches in the scope table, and that what they find is an entry in use. Assumes nothing.
-use Rattle.std.proofs.Common.{◌≡◌, ℕ, suc, ◌+◌, ◌<◌, ◌≤◌, Bool, true, false, cond, ◌&&◌, ◌||◌, ltb, List, [], ◌∷◌, length, get_or, take, refl, ◌∙◌, add-one, arith, length-take, le-ltb, Option, Some, None}
-use Rattle.book.specs.Lists.{any}
+-- Turns of the loops over the scope table, and that what its searches find is an entry in use. Assumes nothing.
+use Rattle.std.proofs.Common.{◌≡◌, ℕ, suc, ◌+◌, ◌<◌, ◌≤◌, Bool, true, false, cond, ◌&&◌, ltb, List, [], ◌∷◌, length, get_or, take, refl, add-one, arith, length-take, le-ltb, Option, Some, None}
 use Rattle.book.specs.Scopes.{Scope, unused}
 use Rattle.tables_model.specs.declared.Whom.{Whom}
 use Rattle.tables_model.specs.Layout.{entries}
@@ -8,36 +7,24 @@ use Rattle.tables_model.specs.Table.{find_from, find, covers, highest_from, high
 use Rattle.tables.proofs.Loops.{left, left-next}
 use Rattle.tables.proofs.Flat.{entries-length}
 
--- ── Turns ─────────────────────────────────────────────────────────────────────────────────────────────────────────────
+-- a turn of the sum of the counts
+pub count_next : (t : List ℕ) (used i : ℕ) → i < used → used ≤ 64
+    → count_all (left used i (entries t)) ≡ (get_or (entries t) i unused).count + count_all (left used (i + 1) (entries t))
+count_next t used i h k = rw (left-next used i (entries t) unused h (rw entries-length k))
 
-module _ (t : List ℕ) (used i : ℕ) (h : i < used) (k : used ≤ 64) where
-  pub next : left used i (entries t) ≡ get_or (entries t) i unused ∷ left used (i + 1) (entries t)
-  next = left-next used i (entries t) unused h (rw entries-length k)
+-- a turn of the search for the highest open change
+highest-by : (w : Whom) (t : List ℕ) (used i best : ℕ) (f : Option ℕ) (q : Bool) → i < used → used ≤ 64 → covers w (get_or (entries t) i unused).holder ≡ q
+    → let x = last_by w (get_or (entries t) i unused) in
+    let rest = left used (i + 1) (entries t) in
+    highest_from w i best f (left used i (entries t)) ≡ cond (ltb best x) (highest_from w (i + 1) x (Some i) rest) (highest_from w (i + 1) best f rest)
+highest-by w t used i best f true h k e = rw (left-next used i (entries t) unused h (rw entries-length k), e, add-one i)
+highest-by w t used i best f false h k e = rw (left-next used i (entries t) unused h (rw entries-length k), e, add-one i, le-ltb best 0 (omega arith))
 
-  pub find-next : (p : Scope → Bool) (b : Bool) → p (get_or (entries t) i unused) ≡ b
-      → find_from p i (left used i (entries t)) ≡ cond b (Some i) (find_from p (i + 1) (left used (i + 1) (entries t)))
-  find-next p b e = rw (next, e, add-one i)
-
-  pub any_next : (p : Scope → Bool) (b : Bool) → p (get_or (entries t) i unused) ≡ b
-      → any p (left used i (entries t)) ≡ b || any p (left used (i + 1) (entries t))
-  any_next p b e = rw (next, e)
-
-  pub count_next : count_all (left used i (entries t)) ≡ (get_or (entries t) i unused).count + count_all (left used (i + 1) (entries t))
-  count_next = rw next
-
-  highest-by : (w : Whom) (best : ℕ) (f : Option ℕ) (q : Bool) → covers w (get_or (entries t) i unused).holder ≡ q
-      → let x = last_by w (get_or (entries t) i unused) in
-      highest_from w i best f (left used i (entries t))
-      ≡ cond (ltb best x) (highest_from w (i + 1) x (Some i) (left used (i + 1) (entries t))) (highest_from w (i + 1) best f (left used (i + 1) (entries t)))
-  highest-by w best f true e = rw (next, e, add-one i)
-  highest-by w best f false e = rw (next, e, add-one i, le-ltb best 0 (omega arith))
-
-  pub highest-next : (w : Whom) (best : ℕ) (f : Option ℕ) (x : ℕ) → x ≡ last_by w (get_or (entries t) i unused)
-      → highest_from w i best f (left used i (entries t))
-      ≡ cond (ltb best x) (highest_from w (i + 1) x (Some i) (left used (i + 1) (entries t))) (highest_from w (i + 1) best f (left used (i + 1) (entries t)))
-  highest-next w best f x e = highest-by w best f (covers w (get_or (entries t) i unused).holder) refl ∙ rw e
-
--- ── Where they end ────────────────────────────────────────────────────────────────────────────────────────────────────
+pub highest_next : (w : Whom) (t : List ℕ) (used i best : ℕ) (f : Option ℕ) → i < used → used ≤ 64
+    → let x = last_by w (get_or (entries t) i unused) in
+    let rest = left used (i + 1) (entries t) in
+    highest_from w i best f (left used i (entries t)) ≡ cond (ltb best x) (highest_from w (i + 1) x (Some i) rest) (highest_from w (i + 1) best f rest)
+highest_next w t used i best f h k = highest-by w t used i best f (covers w (get_or (entries t) i unused).holder) h k refl
 
 same_place : (i j : ℕ) → Some i ≡ Some j → i ≡ j
 same_place i j e = cc
@@ -75,3 +62,6 @@ pub highest-below : (w : Whom) (used : ℕ) (ss : List Scope) (j : ℕ) → high
 unfolding highest
 highest-below w used ss j e =
     omega (arith, highest-from w 0 0 None (take used ss) j (λ z. absurd (no_place j z)) e, length-take used ss)
+
+-- what a function that goes on with an entry found goes by
+pub ruleset in_use = (find-below, highest-below)

@@ -17,9 +17,9 @@ pub reaches : (w : Whom) (used size : ℕ) (ss : List Scope) (f : Option ℕ) �
 reaches w used size ss f e = reaches-by w used size ss f (sym e)
 
 -- a change that has an entry may be noted
-pub may-note : (t : Counts) (s : List ℕ) (v c : ℕ) → Changes t s v c → MayNote s t.used v c
+pub may_note : (t : Counts) (s : List ℕ) (v c : ℕ) → Changes t s v c → MayNote s t.used v c
 unfolding grows_by
-may-note t s v c h = record {
+may_note t s v c h = record {
   long = h.ranged.long;
   within = h.ranged.range.used;
   room = λ e. ltb-true _ _ (rw e at (h.entry []));

@@ -68,6 +68,7 @@ pub(crate) fn count_at(t: &[u16], i: usize) -> u16
 }
 
 // Entry i.
+#[tactic(auto, using(crate::proofs::Flat::entries_read))]
 pub fn entry_at(t: &[u16], i: usize) -> Scope
     requires { Inside (length t.now) i }
     ensures { scope_in result ≡ slice_index_or (entries_of t.now) i unused }

@@ -12,6 +12,7 @@ use tables_model::{CellSet, Whom};
 
 // Entry i grows by a change of the cell by the visit: it is a scope of the cell that its maker, the visit, has not handed over since. The cell is compared
 // first, since it rules most entries out.
+#[tactic(auto, using(crate::proofs::Flat::entries_read))]
 fn grows_at(t: &[u16], i: usize, v: Visit, c: Cell) -> bool
     requires { Inside (length t.now) i }
     ensures { result ≡ grows v.0 c.0 (slice_index_or (entries_of t.now) i unused) }
@@ -20,6 +21,7 @@ fn grows_at(t: &[u16], i: usize, v: Visit, c: Cell) -> bool
 }
 
 // The first entry in use that a change of the cell by the visit grows.
+#[tactic(auto, unfolding(tables_model::specs::Table::find), using(crate::proofs::Loops::looking, crate::proofs::Flat::entries_read))]
 pub fn find_growing(t: &[u16], used: usize, v: Visit, c: Cell) -> Option<usize>
     requires { Sized (length t.now) used }
     ensures { result ≡ find (grows v.0 c.0) used (entries_of t.now) }
@@ -33,6 +35,7 @@ pub fn find_growing(t: &[u16], used: usize, v: Visit, c: Cell) -> Option<usize>
 }
 
 // The visit holds changes of these cells.
+#[tactic(auto, unfolding(tables_model::specs::Table::holds_cell), using(crate::proofs::Loops::looking, crate::proofs::Flat::entries_read))]
 pub fn holds_cell(t: &[u16], used: usize, v: Visit, cs: CellSet) -> bool
     requires { Sized (length t.now) used }
     ensures { result ≡ holds_cell used v.0 (among cs) (entries_of t.now) }
@@ -46,6 +49,7 @@ pub fn holds_cell(t: &[u16], used: usize, v: Visit, cs: CellSet) -> bool
 }
 
 // The highest open change of entry i, 0 for none and where these visits do not hold it.
+#[tactic(auto, using(crate::proofs::Flat::entries_read))]
 fn last_by(t: &[u16], i: usize, w: Whom) -> u16
     requires { Inside (length t.now) i }
     ensures { result ≡ last_by w (slice_index_or (entries_of t.now) i unused) }
@@ -58,6 +62,7 @@ fn last_by(t: &[u16], i: usize, w: Whom) -> u16
 }
 
 // The entry with the highest open change of these visits.
+#[tactic(auto, unfolding(tables_model::specs::Table::highest), using(crate::proofs::Loops::left_end))]
 pub fn highest(t: &[u16], used: usize, w: Whom) -> Option<usize>
     requires { Sized (length t.now) used }
     ensures { result ≡ highest_in w used (entries_of t.now) }
@@ -75,6 +80,7 @@ pub fn highest(t: &[u16], used: usize, w: Whom) -> Option<usize>
 }
 
 // The highest open change of the entry found, 0 for none.
+#[tactic(auto, using(crate::proofs::Flat::entries_read))]
 pub fn last_found(t: &[u16], found: Option<usize>) -> Lsn
     requires { Reaches (length t.now) found }
     ensures { result.0 ≡ last_at found (entries_of t.now) }
@@ -86,6 +92,7 @@ pub fn last_found(t: &[u16], found: Option<usize>) -> Lsn
 }
 
 // The open changes: the sum of the counts.
+#[tactic(auto, unfolding(tables_model::specs::Table::open_count), using(crate::proofs::Searches::count_next, crate::proofs::Loops::left_end, crate::proofs::Flat::entries_read))]
 pub fn open_count(t: &[u16], used: usize) -> usize
     requires { Sized (length t.now) used }
     ensures { (result ≡ open_count used (entries_of t.now)) × (result < 4194305) }

@@ -12,6 +12,7 @@ use rows::{Cell, Lsn, Row, Visit};
 use tables_model::{Breach, CellSet, Counts, Whom};
 
 // The rows that must stay free: an end for each active visit, and an undo for each open change.
+#[tactic(auto, unfolding(tables_model::specs::Rows::reserve_by))]
 pub fn reserve(t: Counts, scopes: &[u16]) -> usize
     requires { Ranged t (length scopes.now) }
     ensures { ((vs : List ℕ) → result ≡ reserve_by (index t vs scopes.now)) × (result < 4194321) }
@@ -20,6 +21,7 @@ pub fn reserve(t: Counts, scopes: &[u16]) -> usize
 }
 
 // After so many rows, n more are free besides the reserve.
+#[tactic(auto, unfolding(tables_model::specs::Rows::room_by))]
 pub fn has_room(t: Counts, scopes: &[u16], rows: usize, n: usize) -> bool
     requires ranged { Ranged t (length scopes.now) }
     requires n_bound { n < 65536 }
@@ -29,6 +31,7 @@ pub fn has_room(t: Counts, scopes: &[u16], rows: usize, n: usize) -> bool
 }
 
 // The highest open change that the visit holds, 0 for none.
+#[tactic(auto, unfolding(tables_model::specs::Rows::highest_of), using(crate::proofs::Verdicts::reaches))]
 pub fn highest_of(t: Counts, scopes: &[u16], v: Visit) -> Lsn
     requires { Ranged t (length scopes.now) }
     ensures { (vs : List ℕ) → result.0 ≡ highest_of (index t vs scopes.now) v.0 }
@@ -37,6 +40,7 @@ pub fn highest_of(t: Counts, scopes: &[u16], v: Visit) -> Lsn
 }
 
 // A change of the cell by the visit would grow a scope.
+#[tactic(auto, unfolding(tables_model::specs::Rows::grows_by))]
 fn grows_scope(t: Counts, scopes: &[u16], v: Visit, c: Cell) -> bool
     requires { Ranged t (length scopes.now) }
     ensures { (vs : List ℕ) → result ≡ grows_by (index t vs scopes.now) v.0 c.0 }
@@ -97,6 +101,7 @@ pub fn is_next(t: Counts, v: Visit) -> bool
 }
 
 // What a row needs of visits, cells, holders and undo rows. `named` is the row that an undo row names.
+#[tactic(auto, unfolding(tables_model::specs::Rows::lawful_by))]
 pub fn is_lawful(t: Counts, visits: &[u16], scopes: &[u16], row: Row, named: Row) -> bool
     requires { Ready t (length visits.now) (length scopes.now) }
     ensures { result ≡ lawful_by (index t visits.now scopes.now) (meant named) (meant row) }
@@ -126,6 +131,7 @@ fn room_to_change(t: Counts, scopes: &[u16], rows: usize, v: Visit, c: Cell) -> 
 }
 
 // What a row needs of the sixteen visits, the scopes and the free rows, after so many rows.
+#[tactic(auto, unfolding(tables_model::specs::Rows::within_limits_by))]
 pub fn is_within_limits(t: Counts, scopes: &[u16], rows: usize, row: Row) -> bool
     requires { Ranged t (length scopes.now) }
     ensures { (vs : List ℕ) → result ≡ within_limits_by (index t vs scopes.now) rows (meant row) }
@@ -139,6 +145,7 @@ pub fn is_within_limits(t: Counts, scopes: &[u16], rows: usize, row: Row) -> boo
 }
 
 // A row judged after so many rows.
+#[tactic(auto, unfolding(tables_model::specs::Rows::judge_by))]
 pub fn judge(
     t: Counts,
     visits: &[u16],

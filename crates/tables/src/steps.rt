@@ -10,6 +10,7 @@ use rows::{Cell, Lsn, Row, Visit};
 use tables_model::{CellSet, Counts, Whom};
 
 // A change in row n.
+#[tactic(auto, using(crate::proofs::Verdicts::may_note))]
 pub fn after_change(t: Counts, scopes: &mut [u16], n: Lsn, v: Visit, c: Cell) -> Counts
     requires { Changes t scopes.old v.0 c.0 }
     ensures { (vs : List ℕ) → index result vs scopes.new ≡ after_change (index t vs scopes.old) n.0 v.0 c.0 }
@@ -19,6 +20,7 @@ pub fn after_change(t: Counts, scopes: &mut [u16], n: Lsn, v: Visit, c: Cell) ->
 }
 
 // The holder's highest open change is undone; `before` is the change before it in its scope, 0 for none.
+#[tactic(auto, unfolding(tables_model::specs::Table::scopes_undone), using(crate::proofs::Searches::in_use))]
 fn after_undo(t: Counts, visits: &mut [u16], scopes: &mut [u16], h: Visit, before: Lsn)
     requires { Ready t (length visits.old) (length scopes.old) }
     ensures { index t visits.new scopes.new ≡ after_undo (index t visits.old scopes.old) h.0 before.0 }
@@ -39,6 +41,7 @@ pub fn after_end(t: Counts, visits: &mut [u16], scopes: &mut [u16], v: Visit) ->
 }
 
 // The row has number n; of an undo row, `before` is the change before the one undone in its scope, 0 for none.
+#[tactic(auto, unfolding(tables_model::specs::Rows::step_by, tables_model::specs::Rows::grows_by))]
 pub fn step(
     t: Counts,
     visits: &mut [u16],

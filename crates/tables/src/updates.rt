@@ -15,6 +15,7 @@ use rows::{Cell, Lsn, Visit};
 use tables_model::CellSet;
 
 // A change in row n grows the scope that may grow, or starts one behind the last. Returns the entries then in use.
+#[tactic(auto, unfolding(tables_model::specs::Table::scopes_changed), using(crate::proofs::Searches::in_use))]
 pub fn note_change(t: &mut [u16], used: usize, n: Lsn, v: Visit, c: Cell) -> usize
     requires { MayNote t.old used v.0 c.0 }
     ensures { scopes_in result t.new ≡ scopes_changed used n.0 v.0 c.0 (entries_of t.old) }
@@ -45,6 +46,7 @@ fn hand_entry(t: &mut [u16], i: usize, g: Visit, r: Visit, cs: CellSet)
 }
 
 // A hand-over: every entry of these cells that the giver holds passes to the receiver.
+#[tactic(auto, unfolding(tables_model::specs::Table::scopes_handed))]
 pub fn hand_over(t: &mut [u16], used: usize, g: Visit, r: Visit, cs: CellSet)
     requires { Sized (length t.old) used }
     ensures { entries_of t.new ≡ scopes_handed used g.0 r.0 (among cs) (entries_of t.old) }
@@ -64,6 +66,7 @@ pub fn undo_at(t: &mut [u16], i: usize, before: Lsn)
 }
 
 // Entry i is put behind the entries kept so far, unless the visit holds it or it stands there already. Returns the entries then kept.
+#[tactic(auto, unfolding(tables_model::specs::Table::moved_at))]
 fn move_entry(t: &mut [u16], kept: u32, i: u32, v: Visit) -> u32
     requires { Moves (length t.old) kept i }
     ensures { scopes_in result t.new ≡ moved_at v.0 i (scopes_in kept t.old) }
@@ -92,6 +95,7 @@ fn close_ranks(t: &mut [u16], used: usize, v: Visit) -> usize
 }
 
 // Every entry from number k on is unused.
+#[tactic(auto, using(crate::proofs::Flat::entries_cleared))]
 fn clear_from(t: &mut [u16], k: usize)
     requires { Sized (length t.old) k }
     ensures { entries_of t.new ≡ pad_to scope_limit unused_scope (take k (entries_of t.old)) }
@@ -100,6 +104,7 @@ fn clear_from(t: &mut [u16], k: usize)
 }
 
 // A commit or an abort: the entries that another visit holds close ranks, the rest is unused. Returns the entries then in use.
+#[tactic(auto, unfolding(tables_model::specs::Table::scopes_ended))]
 pub fn end_visit(t: &mut [u16], used: usize, v: Visit) -> usize
     requires { Sized (length t.old) used }
     ensures { scopes_in result t.new ≡ scopes_ended used v.0 (entries_of t.old) }

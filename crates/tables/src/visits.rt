@@ -13,6 +13,7 @@ use rows::Visit;
 use tables_model::{Active, Counts};
 
 // Place i. Whatever is not 0 counts as bearing.
+#[tactic(auto, using(crate::proofs::Places::places_read))]
 pub fn active_at(visits: &[u16], i: usize) -> Active
     requires { Placed (length visits.now) i }
     ensures { result ≡ slice_index_or (actives visits.now) i vacant }
@@ -35,6 +36,7 @@ pub fn put_active(visits: &mut [u16], i: usize, a: Active)
 }
 
 // The visit is listed as active.
+#[tactic(auto, unfolding(tables_model::specs::Visits::is_listed), using(crate::proofs::Places::places_read, crate::proofs::Loops::looking))]
 pub fn is_listed(t: Counts, visits: &[u16], v: Visit) -> bool
     requires { Listed (length visits.now) t.count }
     ensures { result ≡ is_listed (tables_in t visits.now) v.0 }
@@ -48,6 +50,7 @@ pub fn is_listed(t: Counts, visits: &[u16], v: Visit) -> bool
 }
 
 // The visit is listed, and no undo row bears it. All places are looked at, since a table of any origin may list a visit twice.
+#[tactic(auto, unfolding(tables_model::specs::Visits::is_listed, tables_model::specs::Visits::is_bearing), using(crate::proofs::Places::places_read, crate::proofs::Loops::looking))]
 pub fn may_act(t: Counts, visits: &[u16], v: Visit) -> bool
     requires { Listed (length visits.now) t.count }
     ensures { result ≡ may_act (tables_in t visits.now) v.0 }
@@ -66,6 +69,7 @@ pub fn may_act(t: Counts, visits: &[u16], v: Visit) -> bool
 }
 
 // A begin row: the visit is put behind the last.
+#[tactic(auto, unfolding(tables_model::specs::Visits::with_begun))]
 pub fn with_begun(t: Counts, visits: &mut [u16], v: Visit) -> Counts
     requires { MayBegin t visits.old v.0 }
     ensures { tables_in result visits.new ≡ with_begun (tables_in t visits.old) v.0 }
@@ -94,6 +98,7 @@ fn mark_at(visits: &mut [u16], i: usize, v: Visit)
 }
 
 // An undo row bears the visit.
+#[tactic(auto, unfolding(tables_model::specs::Visits::with_undo))]
 pub fn with_undo(t: Counts, visits: &mut [u16], v: Visit)
     requires { Listed (length visits.old) t.count }
     ensures { tables_in t visits.new ≡ with_undo (tables_in t visits.old) v.0 }
@@ -104,6 +109,7 @@ pub fn with_undo(t: Counts, visits: &mut [u16], v: Visit)
 }
 
 // Place i is put behind the places kept so far, unless the visit has it. Returns the places then kept.
+#[tactic(auto, unfolding(tables_model::specs::Visits::kept_at))]
 fn move_active(visits: &mut [u16], kept: u32, i: u32, v: Visit) -> u32
     requires { Shifts (length visits.old) kept i }
     ensures { places_in result visits.new ≡ kept_at v.0 i (places_in kept visits.old) }
@@ -129,6 +135,7 @@ fn close_ranks(t: Counts, visits: &mut [u16], v: Visit) -> usize
 }
 
 // Every place from number k on is vacant.
+#[tactic(auto, using(crate::proofs::Places::places_cleared))]
 fn vacate_from(visits: &mut [u16], k: usize)
     requires { Listed (length visits.old) k }
     ensures { actives visits.new ≡ pad_to active_limit vacant (take k (actives visits.old)) }
@@ -137,6 +144,7 @@ fn vacate_from(visits: &mut [u16], k: usize)
 }
 
 // A commit or abort row; `used` is what the scope table has left.
+#[tactic(auto, unfolding(tables_model::specs::Visits::with_ended))]
 pub fn with_ended(t: Counts, visits: &mut [u16], v: Visit, used: usize) -> Counts
     requires { Listed (length visits.old) t.count }
     ensures { tables_in result visits.new ≡ with_ended (tables_in t visits.old) v.0 used }

