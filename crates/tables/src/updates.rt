@@ -1,8 +1,6 @@
 // The scope table after a row: a change, a hand-over, an undo, the end of a visit.
-ghost use Rattle.std.specs.Prelude.{◌≡◌, length, take, slice_index_or, slice_set};
-ghost use Rattle.book.specs.Lists.{pad_to};
+ghost use Rattle.std.specs.Prelude.{◌≡◌, length, slice_index_or, slice_set};
 ghost use Rattle.book.specs.Scopes.{unused as unused_scope};
-ghost use Rattle.book.specs.Limits.{scope_limit};
 ghost use Rattle.tables_model.specs.Entries.{Sized, Inside};
 ghost use Rattle.tables_model.specs.Layout.{entries as entries_of};
 ghost use Rattle.tables_model.specs.Table.{scopes_in, MayNote, Moves, ClosedRanks, scopes_changed, among, scopes_handed, scopes_ended, handed_on, moved_at, undone_at};
@@ -82,7 +80,8 @@ fn move_entry(t: &mut [u16], kept: u32, i: u32, v: Visit) -> u32
     kept + 1
 }
 
-// The entries that another visit holds close ranks. Returns how many they are; what stands behind them is not said.
+// The entries that another visit holds close ranks. Returns how many they are; what stands behind them is not said. `visits::close_ranks` is the same loop;
+// a trait over entries and visits would be longer than both, since its lists of places need a ghost member and laws in each implementation.
 fn close_ranks(t: &mut [u16], used: usize, v: Visit) -> usize
     requires { Sized (length t.old) used }
     ensures { ClosedRanks used v.0 (entries_of t.old) (scopes_in result t.new) }
@@ -94,22 +93,13 @@ fn close_ranks(t: &mut [u16], used: usize, v: Visit) -> usize
     kept as usize
 }
 
-// Every entry from number k on is unused.
-#[tactic(auto, using(crate::proofs::Flat::entries_cleared))]
-fn clear_from(t: &mut [u16], k: usize)
-    requires { Sized (length t.old) k }
-    ensures { entries_of t.new ≡ pad_to scope_limit unused_scope (take k (entries_of t.old)) }
-{
-    t[ENTRY_WIDTH * k..].fill(0);
-}
-
 // A commit or an abort: the entries that another visit holds close ranks, the rest is unused. Returns the entries then in use.
-#[tactic(auto, unfolding(tables_model::specs::Table::scopes_ended))]
+#[tactic(auto, unfolding(tables_model::specs::Table::scopes_ended), using(crate::proofs::Flat::entries_cleared))]
 pub fn end_visit(t: &mut [u16], used: usize, v: Visit) -> usize
     requires { Sized (length t.old) used }
     ensures { scopes_in result t.new ≡ scopes_ended used v.0 (entries_of t.old) }
 {
     let kept = close_ranks(t, used, v);
-    clear_from(t, kept);
+    t[ENTRY_WIDTH * kept..].fill(0);
     kept
 }

@@ -1,7 +1,5 @@
 // The active visits in their flat form, place by place: the visit and whether an undo row bears it; the first `count` are in use.
-ghost use Rattle.std.specs.Prelude.{◌≡◌, length, take, slice_index_or, slice_set};
-ghost use Rattle.book.specs.Lists.{pad_to};
-ghost use Rattle.book.specs.Limits.{active_limit};
+ghost use Rattle.std.specs.Prelude.{◌≡◌, length, slice_index_or, slice_set};
 ghost use Rattle.tables_model.specs.Visits.{tables_in, places_in, Placed, Listed, Shifts, MayBegin, Without};
 ghost use Rattle.tables_model.specs.Visits.{marked, is_listed, with_begun, with_undo, with_ended, kept_at};
 ghost use Rattle.tables_model.specs.Rows.{may_act};
@@ -134,23 +132,14 @@ fn close_ranks(t: Counts, visits: &mut [u16], v: Visit) -> usize
     kept as usize
 }
 
-// Every place from number k on is vacant.
-#[tactic(auto, using(crate::proofs::Places::places_cleared))]
-fn vacate_from(visits: &mut [u16], k: usize)
-    requires { Listed (length visits.old) k }
-    ensures { actives visits.new ≡ pad_to active_limit vacant (take k (actives visits.old)) }
-{
-    visits[PLACE_WIDTH * k..].fill(0);
-}
-
 // A commit or abort row; `used` is what the scope table has left.
-#[tactic(auto, unfolding(tables_model::specs::Visits::with_ended))]
+#[tactic(auto, unfolding(tables_model::specs::Visits::with_ended), using(crate::proofs::Places::places_cleared))]
 pub fn with_ended(t: Counts, visits: &mut [u16], v: Visit, used: usize) -> Counts
     requires { Listed (length visits.old) t.count }
     ensures { tables_in result visits.new ≡ with_ended (tables_in t visits.old) v.0 used }
 {
     let kept = close_ranks(t, visits, v);
-    vacate_from(visits, kept);
+    visits[PLACE_WIDTH * kept..].fill(0);
     Counts {
         count: kept,
         used,
