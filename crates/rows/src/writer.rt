@@ -9,7 +9,7 @@ ghost use Rattle.rows.specs.Writing.{fields_of, field_bytes};
 use crate::table::put_by_table;
 use crate::{Lsn, Row};
 
-// A row's fields, with zeros for those that its kind lacks.
+// A row's fields, with zeros for those that its kind lacks. The kind is the number that its first byte has, which is its line of the table too.
 #[derive(Clone, Copy, Default)]
 struct Fields {
     kind: u8,
@@ -24,26 +24,26 @@ impl From<Row> for Fields {
     ghost from_gives = { λ row fields. fields ≡ fields_of row };
 
     fn from(row: Row) -> Fields {
-        let none = Fields::default();
+        let zeros = Fields::default();
         match row {
             Row::Begin(v) => Fields {
                 kind: 1,
                 visit: v.0,
-                ..none
+                ..zeros
             },
             Row::Change(v, c, x) => Fields {
                 kind: 2,
                 visit: v.0,
                 cell: c.0,
                 change: x.cast_unsigned(),
-                ..none
+                ..zeros
             },
             Row::HandOver(g, r, c) => Fields {
                 kind: 3,
                 visit: g.0,
                 receiver: r.0,
                 cell: c.0,
-                ..none
+                ..zeros
             },
             Row::Undo(h, c, n, x) => Fields {
                 kind: 4,
@@ -51,23 +51,23 @@ impl From<Row> for Fields {
                 cell: c.0,
                 undone: n.0,
                 change: x.cast_unsigned(),
-                ..none
+                ..zeros
             },
             Row::Commit(v) => Fields {
                 kind: 5,
                 visit: v.0,
-                ..none
+                ..zeros
             },
             Row::Abort(v) => Fields {
                 kind: 6,
                 visit: v.0,
-                ..none
+                ..zeros
             },
             Row::HandOverAll(g, r) => Fields {
                 kind: 7,
                 visit: g.0,
                 receiver: r.0,
-                ..none
+                ..zeros
             },
         }
     }
