@@ -8,6 +8,7 @@ use mathlib.Core.List.{List, [], ◌++◌, append-nil}
 use lib.ListN.{length, drop, replicate, length-append}
 use lib.Dec.{leb}
 use borrow.Author.Tests.{lt-ltb, leb-false}
+use Rattle.std.specs.Prelude.{is_none}
 use Rattle.book.specs.Lists.{times}
 use Rattle.book.specs.Limits.{tail_limit}
 use Rattle.book.specs.Rows.{Row}
@@ -27,7 +28,7 @@ use Rattle.journal.proofs.Shifts.{none-forced}
 
 -- the journal after a run of its first m rows that ended so
 abbrev after_up_to : ℕ → Journal → Ran → Journal
-after_up_to m j o = record { control = control_after j.control (j.control.waiting - m) o.run; log = o.log; tail = tail_after o.run.cut m j.control.waiting j.tail }
+after_up_to m j o = record { control = control_after j.control (j.control.waiting - m) o.run; log = o.log; tail = tail_after (is_none o.run.fuse) m j.control.waiting j.tail }
 
 -- an open book
 open-up-to : (m : ℕ) (s w : List Row) (f : Fuse) → m ≤ length w → length w ≤ 64 → length s + length w ≤ 4096

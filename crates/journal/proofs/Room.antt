@@ -7,9 +7,10 @@ use native.Mathlib.Omega.{arith}
 use lib.ListN.{length, drop, length-replicate}
 use lib.Dec.{leb}
 use borrow.Author.Tests.{leb-false}
+use Rattle.std.specs.Prelude.{Option, Some, None}
 use Rattle.book.specs.Limits.{tail_limit}
 use Rattle.journal.specs.Writes.{put_row}
-use Rattle.journal.specs.Force.{runs, chunks, closed_at, control_after}
+use Rattle.journal.specs.Force.{runs, chunks, control_by, control_after}
 use Rattle.journal.specs.Journal.{Journal, journal, forced, with_room}
 use Rattle.state.specs.declared.ram.Fuse.{Fuse}
 use Rattle.state.specs.declared.ram.Fuse.TheVariants.{Unlimited, Left}
@@ -31,18 +32,18 @@ chunks-count (suc m) b = ap suc (chunks-count m (drop 16 b))
 
 -- what a run leaves counted
 after-stored : (c : Control) (w : ℕ) (run : Run) → (control_after c w run).stored ≡ run.stored
-after-stored c w run = go run.cut
+after-stored c w run = go run.fuse
   where
-    go : (t : Bool) → (cond t (closed_at run.stored) (record { phase = c.phase; fuse = run.fuse; stored = run.stored; waiting = w })).stored ≡ run.stored
-    go true = refl
-    go false = refl
+    go : (left : Option Fuse) → (control_by left c run.stored w).stored ≡ run.stored
+    go (Some f) = refl
+    go None = refl
 
 after-waiting : (c : Control) (w : ℕ) (run : Run) → (control_after c w run).waiting ≤ w
-after-waiting c w run = go run.cut
+after-waiting c w run = go run.fuse
   where
-    go : (t : Bool) → (cond t (closed_at run.stored) (record { phase = c.phase; fuse = run.fuse; stored = run.stored; waiting = w })).waiting ≤ w
-    go true = omega arith
-    go false = omega arith
+    go : (left : Option Fuse) → (control_by left c run.stored w).waiting ≤ w
+    go (Some f) = omega arith
+    go None = omega arith
 
 -- the journal has a place in its tail, and no more rows than there were
 pub record Roomy (j k : Journal) : Type 0 where

@@ -6,6 +6,7 @@ use mathlib.Core.Path.{◌≡◌, refl, ap, sym, ◌∙◌}
 use mathlib.Core.Bool.{true, cond}
 use mathlib.Core.List.{List, [], ◌∷◌, ◌++◌}
 use lib.ListN.{length, drop}
+use Rattle.std.specs.Prelude.{Some}
 use Rattle.book.specs.Lists.{times}
 use Rattle.book.specs.Rows.{Row}
 use Rattle.book.specs.RowBytes.{row_bytes}
@@ -18,17 +19,16 @@ use Rattle.state.specs.World.{fuse_of}
 use Rattle.state.specs.declared.ram.Fuse.{Fuse}
 use Rattle.state.specs.declared.ram.Fuse.TheVariants.{Unlimited, Left}
 use Rattle.journal.specs.Writes.{spend_of}
-use Rattle.journal.specs.declared.fuse.Spent.TheVariants.{Lands}
 use Rattle.journal.specs.Force.{Ran, chunks, runs}
 use Rattle.journal.proofs.Turns.{ends_well, ends_cut, run-lands}
 use Rattle.journal.proofs.RowsInBytes.{snoc-length, log-next, first_chunk}
 
 -- how a run ended that leaves this book
 abbrev pub ran_of : Book → Ran
-ran_of b = cond b.is_open (ends_well (fuse_of b.fuse) (length b.stored) (log_bytes b.stored)) (ends_cut (Left 0) (length b.stored) (log_bytes b.stored))
+ran_of b = cond b.is_open (ends_well (fuse_of b.fuse) (length b.stored) (log_bytes b.stored)) (ends_cut (length b.stored) (log_bytes b.stored))
 
 -- one row more is stored
-next : (f g : Fuse) (m : ℕ) (s w : List Row) (r : Row) (z : List ℕ) (o : Ran) → spend_of f ≡ Lands g → length s + 1 ≤ 4096
+next : (f g : Fuse) (m : ℕ) (s w : List Row) (r : Row) (z : List ℕ) (o : Ran) → spend_of f ≡ Some g → length s + 1 ≤ 4096
     → runs g (length (s ++ (r ∷ []))) (log_bytes (s ++ (r ∷ []))) (chunks m (rows_bytes (suc (length (s ++ (r ∷ [])))) w ++ z)) ≡ o
     → runs f (length s) (log_bytes s) (chunks (suc m) (rows_bytes (suc (length s)) (r ∷ w) ++ z)) ≡ o
 next f g m s w r z o lands h e =

@@ -1,15 +1,14 @@
 -- The journal whole, and what each of its functions makes of it.
-use Rattle.std.specs.Prelude.{ℕ, suc, ◌+◌, ◌-◌, ◌*◌, Bool, cond, List, length, replicate, leb, ltb}
+use Rattle.std.specs.Prelude.{ℕ, suc, ◌+◌, ◌-◌, ◌*◌, Bool, cond, List, length, replicate, leb, ltb, Option, is_none}
 use Rattle.book.specs.Limits.{row_limit, row_length, tail_limit}
 use Rattle.book.specs.Rows.{Row}
 use Rattle.book.specs.RowBytes.{row_bytes}
+use Rattle.state.specs.declared.ram.Fuse.{Fuse}
 use Rattle.state.specs.declared.ram.Phase.{Phase}
 use Rattle.state.specs.declared.ram.Phase.TheVariants.{Open, Closed}
 use Rattle.journal.specs.declared.Control.{Control}
-use Rattle.journal.specs.declared.fuse.Spent.{Spent}
-use Rattle.journal.specs.declared.fuse.Spent.TheVariants.{Lands, Beyond}
 use Rattle.journal.specs.Writes.{spend_of, put_at, put_page, if_lands}
-use Rattle.journal.specs.Force.{Ran, chunks, runs, closed_at, control_after, shifted}
+use Rattle.journal.specs.Force.{Ran, chunks, runs, closed_at, control_by, control_after, shifted}
 
 pub record Journal : Type 0 where
   pub control : Control
@@ -27,7 +26,7 @@ tail_after cut m w tail = cond cut (replicate (length tail) 0) (shifted m w tail
 unfoldable pub forced_up_to : ℕ → Journal → Journal
 forced_up_to m j =
     let o : Ran = runs j.control.fuse j.control.stored j.log (chunks m j.tail) in
-    record { control = control_after j.control (j.control.waiting - m) o.run; log = o.log; tail = tail_after o.run.cut m j.control.waiting j.tail }
+    record { control = control_after j.control (j.control.waiting - m) o.run; log = o.log; tail = tail_after (is_none o.run.fuse) m j.control.waiting j.tail }
 
 -- all of them, and the tail is empty
 unfoldable pub forced : Journal → Journal
@@ -66,9 +65,8 @@ pub record Paged : Type 0 where
   pub control : Control
   pub charts : List ℕ
 
-abbrev pub spent : Control → Spent → Control
-spent c (Lands f) = record { phase = c.phase; fuse = f; stored = c.stored; waiting = c.waiting }
-spent c Beyond = closed_at c.stored
+abbrev pub spent : Control → Option Fuse → Control
+spent c left = control_by left c c.stored c.waiting
 
 abbrev pub paged_if : Phase → Control → List ℕ → ℕ → List ℕ → Paged
 paged_if Closed c charts p page = record { control = c; charts = charts }

@@ -6,17 +6,15 @@ ghost use Rattle.journal.specs.Journal.{journal, forced, forced_up_to};
 ghost use Rattle.state.specs.World.{tail_length};
 
 use crate::Control;
-use crate::fuse::Spent;
-use crate::writes::{clear, store_row};
+use crate::writes::store_row;
 use rows::limits::ROW_LENGTH;
-use state::ram::{Fuse, Phase};
+use state::ram::Fuse;
 
-// How a run of stored writes ended: the fuse, the rows stored, and whether a write was beyond the fuse.
+// How a run of stored writes ended: the fuse that is left, none where a write was beyond it, and the rows stored.
 #[derive(Clone, Copy)]
 pub struct Run {
-    pub fuse: Fuse,
+    pub fuse: Option<Fuse>,
     pub stored: usize,
-    pub cut: bool,
 }
 
 // The tail's first m rows go to the end of the log, until a write is beyond the fuse.
@@ -26,29 +24,19 @@ fn store_tail(f: Fuse, stored: usize, m: usize, log: &mut [u8], tail: &[u8]) -> 
         × (log.new ≡ (runs f stored log.old (chunks m tail.now)).log) }
 {
     let mut fuse = f;
-    let mut j: usize = 0;
-    while j < m {
-        let a = ROW_LENGTH * j;
-        let e = a + ROW_LENGTH;
-        let s = store_row(fuse, stored + j, log, &tail[a..e]);
-        match s {
-            Spent::Lands(g) => {
-                fuse = g;
-                j += 1;
-            }
-            Spent::Beyond => {
-                return Run {
-                    fuse: fuse,
-                    stored: stored + j,
-                    cut: true,
-                };
-            }
-        }
+    for j in 0..m {
+        let at = ROW_LENGTH * j;
+        let Some(left) = store_row(fuse, stored + j, log, &tail[at..at + ROW_LENGTH]) else {
+            return Run {
+                fuse: None,
+                stored: stored + j,
+            };
+        };
+        fuse = left;
     }
     Run {
-        fuse: fuse,
-        stored: stored + j,
-        cut: false,
+        fuse: Some(fuse),
+        stored: stored + m,
     }
 }
 
@@ -56,22 +44,15 @@ fn store_tail(f: Fuse, stored: usize, m: usize, log: &mut [u8], tail: &[u8]) -> 
 fn control_after(c: Control, waiting: usize, run: Run) -> Control
     ensures { result ≡ control_after c waiting run }
 {
-    let fuse = run.fuse;
-    let phase = c.phase;
-    if run.cut {
-        Control {
-            phase: Phase::Closed,
-            fuse: Fuse::Unlimited,
-            stored: run.stored,
-            waiting: 0,
-        }
-    } else {
-        Control {
-            phase: phase,
-            fuse: fuse,
-            stored: run.stored,
-            waiting: waiting,
-        }
+    let stored = run.stored;
+    match run.fuse {
+        Some(fuse) => Control {
+            fuse,
+            stored,
+            waiting,
+            ..c
+        },
+        None => Control::closed(stored),
     }
 }
 
@@ -80,9 +61,8 @@ pub fn force(c: Control, log: &mut [u8], tail: &mut [u8]) -> Control
     requires { Sizes c (length log.old) (length tail.old) }
     ensures { journal result log.new tail.new ≡ forced (journal c log.old tail.old) }
 {
-    let fuse = c.fuse;
-    let run = store_tail(fuse, c.stored, c.waiting, log, tail);
-    clear(tail);
+    let run = store_tail(c.fuse, c.stored, c.waiting, log, tail);
+    tail.fill(0);
     control_after(c, 0, run)
 }
 
@@ -94,12 +74,8 @@ fn shift(tail: &mut [u8], m: usize, waiting: usize)
     let gap = ROW_LENGTH * m;
     let end = ROW_LENGTH * waiting;
     let keep = end - gap;
-    let mut i: usize = 0;
-    while i < keep {
-        tail[i] = tail[i + gap];
-        i += 1;
-    }
-    clear(&mut tail[keep..end]);
+    tail.copy_within(gap..end, 0);
+    tail[keep..end].fill(0);
 }
 
 // The first m waiting rows are stored, the others go on waiting. Where there are none to store, the tail is not touched.
@@ -110,12 +86,10 @@ pub fn force_up_to(c: Control, log: &mut [u8], tail: &mut [u8], m: usize) -> Con
     if m == 0 {
         return c;
     }
-    let fuse = c.fuse;
-    let run = store_tail(fuse, c.stored, m, log, tail);
-    if run.cut {
-        clear(tail);
-        return control_after(c, 0, run);
+    let run = store_tail(c.fuse, c.stored, m, log, tail);
+    match run.fuse {
+        Some(_) => shift(tail, m, c.waiting),
+        None => tail.fill(0),
     }
-    shift(tail, m, c.waiting);
     control_after(c, c.waiting - m, run)
 }

@@ -4,24 +4,13 @@ ghost use Rattle.journal.specs.Writes.{spend_of};
 
 use state::ram::Fuse;
 
-// What one stored write does to the fuse: it lands and leaves a fuse, or it is beyond it.
-#[derive(Clone, Copy)]
-pub enum Spent {
-    Lands(Fuse),
-    Beyond,
-}
-
-pub fn spend(f: Fuse) -> Spent
+// What one stored write leaves of the fuse; none where it is beyond it.
+pub fn spend(f: Fuse) -> Option<Fuse>
     ensures { result ≡ spend_of f }
 {
     match f {
-        Fuse::Unlimited => Spent::Lands(f),
-        Fuse::Left(n) => {
-            if n == 0 {
-                Spent::Beyond
-            } else {
-                Spent::Lands(Fuse::Left(n - 1))
-            }
-        }
+        Fuse::Unlimited => Some(f),
+        Fuse::Left(0) => None,
+        Fuse::Left(n) => Some(Fuse::Left(n - 1)),
     }
 }

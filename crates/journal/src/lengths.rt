@@ -8,21 +8,12 @@ use rows::limits::{CHARTS_LENGTH, LOG_LENGTH, SCOPE_LIMIT};
 pub fn stored_fit(log: usize, charts: usize) -> bool
     ensures { result ≡ (eqb log log_length && eqb charts charts_length) }
 {
-    if log != LOG_LENGTH {
-        return false;
-    }
-    charts == CHARTS_LENGTH
+    log == LOG_LENGTH && charts == CHARTS_LENGTH
 }
 
 // The log, the charts, the copy and the scope table have their lengths.
 pub fn lengths_fit(log: usize, charts: usize, copy: usize, scopes: usize) -> bool
     ensures { result ≡ (eqb log log_length && eqb charts charts_length && eqb copy charts_length && eqb scopes scope_limit) }
 {
-    if !stored_fit(log, charts) {
-        return false;
-    }
-    if copy != CHARTS_LENGTH {
-        return false;
-    }
-    scopes == SCOPE_LIMIT
+    stored_fit(log, charts) && copy == CHARTS_LENGTH && scopes == SCOPE_LIMIT
 }

@@ -2,13 +2,15 @@
 // `proofs/Meaning` says that these functions do to the bytes what the book's steps do to its rows.
 #![tactic(auto)]
 
+ghost use Rattle.std.specs.Prelude.{◌≡◌};
+ghost use Rattle.journal.specs.Force.{closed_at};
+
 use state::answers::{Answer, Writes};
 use state::ram::{Fuse, Phase};
 use tables_model::Counts;
 
 pub mod force;
 pub mod fuse;
-pub mod landed;
 pub mod lengths;
 pub mod pages;
 pub mod tail;
@@ -21,6 +23,20 @@ pub struct Control {
     pub fuse: Fuse,
     pub stored: usize,
     pub waiting: usize,
+}
+
+impl Control {
+    // Closed, with so many rows stored.
+    pub fn closed(stored: usize) -> Control
+        ensures { result ≡ closed_at stored }
+    {
+        Control {
+            phase: Phase::Closed,
+            fuse: Fuse::Unlimited,
+            stored,
+            waiting: 0,
+        }
+    }
 }
 
 // What a call comes to besides the lent arrays: its answer, where the journal stands, the counters of the tables, and the stored writes that landed.

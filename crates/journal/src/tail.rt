@@ -8,10 +8,9 @@ ghost use Rattle.state.specs.World.{tail_length};
 
 use crate::Control;
 use crate::force::force;
-use crate::writes::clear;
 use rows::limits::{ROW_LENGTH, ROW_LIMIT, TAIL_LIMIT};
 use rows::{Lsn, Row};
-use state::ram::{Fuse, Phase};
+use state::ram::Phase;
 
 // A full tail is forced.
 fn make_room(c: Control, log: &mut [u8], tail: &mut [u8]) -> Control
@@ -19,9 +18,10 @@ fn make_room(c: Control, log: &mut [u8], tail: &mut [u8]) -> Control
     ensures { journal result log.new tail.new ≡ with_room (journal c log.old tail.old) }
 {
     if TAIL_LIMIT <= c.waiting {
-        return force(c, log, tail);
+        force(c, log, tail)
+    } else {
+        c
     }
-    c
 }
 
 // The row's bytes are put behind the waiting ones.
@@ -29,18 +29,13 @@ fn join(c: Control, tail: &mut [u8], row: Row) -> Control
     requires { (length tail.old ≡ tail_length) × (c.waiting < tail_limit) × (c.stored + c.waiting < row_limit) }
     ensures { journal result [] tail.new ≡ joined (journal c [] tail.old) (meant row) }
 {
-    let stored = c.stored;
-    let waiting = c.waiting;
-    let fuse = c.fuse;
-    let n = Lsn((stored + waiting + 1) as u16);
-    let a = ROW_LENGTH * waiting;
-    let e = a + ROW_LENGTH;
-    rows::writer::write_row(&mut tail[a..e], row, n);
+    let n = Lsn((c.stored + c.waiting + 1) as u16);
+    let at = ROW_LENGTH * c.waiting;
+    rows::writer::write_row(&mut tail[at..at + ROW_LENGTH], row, n);
     Control {
         phase: Phase::Open,
-        fuse: fuse,
-        stored: stored,
-        waiting: waiting + 1,
+        waiting: c.waiting + 1,
+        ..c
     }
 }
 
@@ -48,13 +43,8 @@ fn join(c: Control, tail: &mut [u8], row: Row) -> Control
 fn close(c: Control, tail: &mut [u8]) -> Control
     ensures { journal result [] tail.new ≡ closed_journal (journal c [] tail.old) }
 {
-    clear(tail);
-    Control {
-        phase: Phase::Closed,
-        fuse: Fuse::Unlimited,
-        stored: c.stored,
-        waiting: 0,
-    }
+    tail.fill(0);
+    Control::closed(c.stored)
 }
 
 // A row joins those that wait; a full tail is forced first, and a closed journal takes none.
@@ -63,15 +53,12 @@ pub fn append(c: Control, log: &mut [u8], tail: &mut [u8], row: Row) -> Control
     ensures { journal result log.new tail.new ≡ appended (journal c log.old tail.old) (meant row) }
 {
     let d = make_room(c, log, tail);
-    let phase = d.phase;
-    match phase {
-        Phase::Closed => {
-            return d;
-        }
-        Phase::Open => {}
-    }
+    let Phase::Open = d.phase else {
+        return d;
+    };
     if d.stored + d.waiting < ROW_LIMIT {
-        return join(d, tail, row);
+        join(d, tail, row)
+    } else {
+        close(d, tail)
     }
-    close(d, tail)
 }

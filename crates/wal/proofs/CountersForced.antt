@@ -1,21 +1,22 @@
 -- A force, of all waiting rows or of the first ones, keeps the journal's counters within their limits: what is stored was waiting. Assumes nothing.
 use Prim.Native.Nat.{ℕ, ◌+◌, ◌-◌, ◌≤◌}
 use native.Mathlib.Omega.{arith}
-use mathlib.Core.Bool.{Bool, true, false, cond}
+use Rattle.std.specs.Prelude.{Option, Some, None}
+use Rattle.state.specs.declared.ram.Fuse.{Fuse}
 use Rattle.journal.specs.declared.Control.{Control}
 use Rattle.journal.specs.declared.force.Run.{Run}
-use Rattle.journal.specs.Force.{chunks, runs, closed_at, control_after}
+use Rattle.journal.specs.Force.{chunks, runs, control_by, control_after}
 use Rattle.journal.specs.Journal.{Journal, forced, forced_up_to}
 use Rattle.journal.proofs.Room.{run-bound, chunks-count}
 use Rattle.wal.proofs.Counters.{Counters}
 
 -- a run that stores at most m rows, and leaves so many waiting
 after_run : (c : Control) (w m : ℕ) (run : Run) → run.stored ≤ c.stored + m → w + m ≤ c.waiting → Counters c → Counters (control_after c w run)
-after_run c w m run h k n = go run.cut
+after_run c w m run h k n = go run.fuse
   where
-    go : (t : Bool) → Counters (cond t (closed_at run.stored) (record { phase = c.phase; fuse = run.fuse; stored = run.stored; waiting = w }))
-    go true = record { few = omega arith; room = omega (arith, n.room) }
-    go false = record { few = omega (arith, n.few); room = omega (arith, n.room) }
+    go : (left : Option Fuse) → Counters (control_by left c run.stored w)
+    go (Some f) = record { few = omega (arith, n.few); room = omega (arith, n.room) }
+    go None = record { few = omega arith; room = omega (arith, n.room) }
 
 module _ (j : Journal) (n : Counters j.control) where
   abbrev run : ℕ → Run

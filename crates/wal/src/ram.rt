@@ -6,7 +6,6 @@ ghost use Rattle.wal.specs.Arrays.{left};
 use journal::{Control, Outcome};
 use rows::limits::{CHARTS_LENGTH, TAIL_LENGTH};
 use state::answers::{Answer, Writes};
-use state::ram::{Fuse, Phase};
 use tables::layout::{FLAT_LENGTH, VISITS_LENGTH};
 use tables_model::Counts;
 
@@ -30,12 +29,7 @@ impl Ram<'_> {
         self.scopes.fill(0);
         Outcome {
             answer,
-            control: Control {
-                phase: Phase::Closed,
-                fuse: Fuse::Unlimited,
-                stored: 0,
-                waiting: 0,
-            },
+            control: Control::closed(0),
             counts: Counts::default(),
             writes,
         }

@@ -5,4 +5,4 @@ pub returns : goal.returns
 unfolding forced
 returns c =
     let s = c.store_tail-run in
-    rw (c.control_after.ensures, s.ensures.0, s.ensures.1, c.clear.ensures)
+    rw (c.control_after.ensures, s.ensures.0, s.ensures.1, c.fill.ensures.after (λ y e. e))

@@ -8,20 +8,21 @@ use Rattle.journal.proofs.force.store_tail.Goals as goal
 pub loop-j-preserved : goal.loop-j-preserved
 loop-j-preserved c =
     let l = c.loop-j in
-    let s = c.store_row-s in
-    let t = sym s.ensures.0 ∙ c.in-Lands.is in
+    let s = c.store_row in
+    let t = sym s.ensures.0 ∙ c.in-Some.is in
     let e : 16 * l.j + 16 - 16 * l.j ≡ 16 = omega arith in
-    (omega arith, s.auto.log ∙ l.invariant.1, l.invariant.2 ∙ turn _ _ _ _ _ _ _ (omega arith) t ∙ rw (s.ensures.1, t, e))
+    (s.auto.log ∙ l.invariant.0, l.invariant.1 ∙ turn _ _ _ _ _ _ _ (omega arith) t ∙ rw (s.ensures.1, t, e))
 
-pub returns-in-Beyond : goal.returns-in-Beyond
-returns-in-Beyond c =
+pub returns-in_default : goal.returns-in_default
+returns-in_default c =
     let l = c.loop-j in
-    let s = c.store_row-s in
-    let e = l.invariant.2 ∙ turn-cut _ _ _ _ _ _ (omega arith) (sym s.ensures.0 ∙ c.in-Beyond.is) in
-    (sym (ap (λ (o : Ran). o.run) e), rw (s.ensures.1, ← s.ensures.0, c.in-Beyond.is) (sym (ap (λ (o : Ran). o.log) e)))
+    let s = c.store_row in
+    let e = l.invariant.1 ∙ turn-cut _ _ _ _ _ _ (omega arith) (sym s.ensures.0 ∙ c.in_default.is) in
+    (sym (ap (λ (o : Ran). o.run) e), rw (s.ensures.1, ← s.ensures.0, c.in_default.is) (sym (ap (λ (o : Ran). o.log) e)))
 
 pub returns : goal.returns
 returns c =
     let l = c.loop-j in
-    let e = l.invariant.2 ∙ turns-end _ _ _ _ _ _ (omega arith) in
+    let last : l.j ≡ c.args.m = omega arith in
+    let e = rw last at l.invariant.1 ∙ turns-end _ _ _ _ _ in
     (sym (ap (λ (o : Ran). o.run) e), sym (ap (λ (o : Ran). o.log) e))

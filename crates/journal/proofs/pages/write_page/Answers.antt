@@ -2,22 +2,20 @@ use mathlib.Core.Path.{◌∙◌, sym}
 use Rattle.journal.specs.Journal.{paged}
 use Rattle.journal.proofs.pages.write_page.Goals as goal
 
-pub returns-in-Closed : goal.returns-in-Closed
+pub returns-in_default : goal.returns-in_default
 unfolding paged
-returns-in-Closed c = rw c.in-Closed.is
+returns-in_default c = rw c.in_default.is
 
-pub returns-in-Lands : goal.returns-in-Lands
+pub returns-in-Some : goal.returns-in-Some
 unfolding paged
-returns-in-Lands c =
-    let s = c.store_page-s in
-    let open-phase = c.in-Open.is in
-    let lands = sym s.ensures.0 ∙ c.in-Lands.is in
-    rw (s.ensures.1, open-phase, lands)
+returns-in-Some c =
+    let s = c.store_page in
+    let lands = sym s.ensures.0 ∙ c.in-Some.is in
+    rw (s.ensures.1, c.in-Open.is, lands)
 
-pub returns-in-Beyond : goal.returns-in-Beyond
+pub returns-in-None : goal.returns-in-None
 unfolding paged
-returns-in-Beyond c =
-    let s = c.store_page-s in
-    let open-phase = c.in-Open.is in
-    let beyond = sym s.ensures.0 ∙ c.in-Beyond.is in
-    rw (s.ensures.1, open-phase, beyond)
+returns-in-None c =
+    let s = c.store_page in
+    let beyond = sym s.ensures.0 ∙ c.in-None.is in
+    rw (c.closed.ensures, s.ensures.1, c.in-Open.is, beyond)

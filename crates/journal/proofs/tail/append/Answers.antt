@@ -5,9 +5,9 @@ use Rattle.journal.specs.Journal.{journal, appended}
 use Rattle.journal.proofs.Room.{roomy, with-log}
 use Rattle.journal.proofs.tail.append.Goals as goal
 
-pub returns-in-Closed : goal.returns-in-Closed
+pub returns-in_default : goal.returns-in_default
 unfolding appended
-returns-in-Closed c = rw (← c.make_room-d.ensures, c.in-Closed.is)
+returns-in_default c = rw (← c.make_room-d.ensures, c.in_default.is)
 
 pub overflow_add-d : goal.overflow_add-d
 overflow_add-d c =
@@ -29,8 +29,8 @@ returns-then-d-lt-ROW_LIMIT c =
     rw (← c.make_room-d.ensures, c.in-Open.is, lt-ltb _ _ c.if-d-lt-ROW_LIMIT.true)
     (with-log _ _ _ c.join.ensures)
 
-pub returns : goal.returns
+pub returns-else-d-lt-ROW_LIMIT : goal.returns-else-d-lt-ROW_LIMIT
 unfolding appended
-returns c =
+returns-else-d-lt-ROW_LIMIT c =
     rw (← c.make_room-d.ensures, c.in-Open.is, le-ltb _ _ c.if-d-lt-ROW_LIMIT.false)
     (with-log _ _ _ c.close.ensures)

@@ -7,6 +7,6 @@ unfolding with_room
 returns-then-c-ge-TAIL_LIMIT c =
     rw (le-leb _ _ c.if-c-ge-TAIL_LIMIT.true) c.force.ensures
 
-pub returns : goal.returns
+pub returns-else-c-ge-TAIL_LIMIT : goal.returns-else-c-ge-TAIL_LIMIT
 unfolding with_room
-returns c = rw (lt-leb _ _ c.if-c-ge-TAIL_LIMIT.false)
+returns-else-c-ge-TAIL_LIMIT c = rw (lt-leb _ _ c.if-c-ge-TAIL_LIMIT.false)

@@ -10,7 +10,7 @@ returns c =
       refl,
       refl,
       record {
-        control = refl;
+        control = c.closed.ensures;
         counts = none-counted c.default.result c.default.ensures;
         copy-zero = c.fill.ensures.after (λ y e. e) ∙ zero _ 1024 search;
         tail-zero = c.fill-2.ensures.after (λ y e. e) ∙ zero _ 1024 search;
