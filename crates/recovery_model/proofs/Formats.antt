@@ -12,8 +12,9 @@ use Rattle.book.specs.Book as book
 use Rattle.book.specs.Limits.{cell_limit}
 use Rattle.book.specs.LogBytes.{log_bytes}
 use Rattle.book.specs.Pages.{chart_bytes, page_after}
-use Rattle.state.specs.declared.answers.Answer.{Answer}
-use Rattle.state.specs.Answers.{number_and_value}
+use Rattle.std.specs.Prelude.{Result}
+use Rattle.state.specs.declared.answers.Refusal.{Refusal}
+use Rattle.state.specs.Answers.{checked}
 use Rattle.state.specs.World.{World, world, right_lengths, cleared}
 use Rattle.book.specs.Writes.{no_writes}
 use Rattle.state.specs.CallContracts.{Answered, answered, bad_cell, cells_of, formats}
@@ -47,11 +48,11 @@ formats-by values w e = rw e (go (eqb (length values) cell_limit) (ltb (bad_cell
 
 -- ── By the answer ─────────────────────────────────────────────────────────────────────────────────────────────────────
 
-module _ (values : List ℤ) (w : World) (long : right_lengths w ≡ true) (r : Answer) (log charts : List ℕ)
+module _ (values : List ℤ) (w : World) (long : right_lengths w ≡ true) (r : Result (Unit {0}) Refusal) (log charts : List ℕ)
     (is : formatted_as r log charts ≡ format_bytes values w.log w.charts) where
-  pub format-done : (number_and_value r).number ≡ 0 → formats values w ≡ record { answer = number_and_value r; world = cleared log charts; writes = no_writes }
+  pub format-done : (checked r).number ≡ 0 → formats values w ≡ record { answer = checked r; world = cleared log charts; writes = no_writes }
   format-done e = formats-by values w long ∙ rw (← is, eq-eqb _ _ e)
 
-  pub format-refused : (number_and_value r).number ≢ 0
-      → formats values w ≡ record { answer = number_and_value r; world = world w.state log charts w.copy w.scopes; writes = no_writes }
+  pub format-refused : (checked r).number ≢ 0
+      → formats values w ≡ record { answer = checked r; world = world w.state log charts w.copy w.scopes; writes = no_writes }
   format-refused e = formats-by values w long ∙ rw (← is, ne_eqb _ _ e)

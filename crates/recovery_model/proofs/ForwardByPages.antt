@@ -7,6 +7,7 @@ use mathlib.Core.List.{List}
 use lib.ListN.{length, drop, length-drop}
 use lib.Seq.{length-take-le}
 use lib.Dec.{eqb}
+use Rattle.std.specs.Prelude.{None}
 use borrow.Author.Tests.{eqb-true}
 use Rattle.book.specs.Limits.{page_limit, log_length, charts_length}
 use Rattle.book.specs.Lists.{foldl, join}
@@ -67,7 +68,7 @@ any-order-alone f w right bytes rs e pass ps all =
     let log-long = eqb-true (length w.log) log_length log in
     let long = eqb-true (length w.charts) charts_length charts in
     let s = scanned w.log no_index in
-    let none : s.bad ≡ 0 = ap (λ (s : Scanned). s.bad) (scan_good w.log rs e) in
+    let none : s.bad ≡ None = ap (λ (s : Scanned). s.bad) (scan_good w.log rs e) in
     let copy = copy-forward w.log w.charts log-long long bytes rs e ps all in
     record {
       forward = copy;

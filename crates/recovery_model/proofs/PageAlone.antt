@@ -33,7 +33,7 @@ use Rattle.recovery_model.proofs.RedoMeans.{redo-any}
 -- ── The end of the log ────────────────────────────────────────────────────────────────────────────────────────────────
 
 -- k numbers pass, and the next fails, if there is one
-first-is : (n from k : ℕ) (P : ℕ → Bool) → k ≤ n → ((i : ℕ) → i < k → P (from + i) ≡ true) → (k < n → P (from + k) ≡ false)
+pub first-is : (n from k : ℕ) (P : ℕ → Bool) → k ≤ n → ((i : ℕ) → i < k → P (from + i) ≡ true) → (k < n → P (from + k) ≡ false)
     → first_failing n from P ≡ from + k
 first-is zero from k P h t f = omega arith
 first-is (suc n) from zero P h t f = let z : P from ≡ false = ap P (sym (add-zero from)) ∙ f (omega arith) in rw z (sym (add-zero from))

@@ -13,10 +13,7 @@ use borrow.Author.Tests.{eq-eqb, ne_eqb, eqb-false, ltb-true, ltb-false}
 use Rattle.book.specs.Lists.{foldl, member, tabulate, join}
 use Rattle.book.specs.Book.{done, refused_by}
 use Rattle.book.specs.Numbers.{AreBytes}
-use Rattle.book.specs.Rows.{Row}
-use Rattle.book.specs.LogBytes.{good, read_log}
 use Rattle.book.specs.Pages.{page_bytes, chart_bytes, page_at, is_page, redone}
-use Rattle.book.specs.Opening.{bad_page}
 use Rattle.book.proofs.Lists.{clash, or_l, or_r}
 use Rattle.book.proofs.Blocks.{blocks, blocks-long, tabulate-same, first-all, block_at, block-set}
 use Rattle.book.proofs.Numbers.{part_bytes}

@@ -2,13 +2,13 @@
 use Prim.Native.Nat.{ℕ, ◌≤◌}
 use native.Mathlib.Omega.{arith}
 use mathlib.Core.Path.{◌≡◌, refl, ap, ap₂, sym, ◌∙◌, subst}
-use mathlib.Core.Bool.{Bool, true, false, cond, not}
+use mathlib.Core.Bool.{Bool, true, false, cond}
 use mathlib.Core.List.{List, [], append-nil}
 use lib.ListN.{length}
 use lib.IntN.{ℤ, pos}
 use lib.Dec.{eqb, ltb}
-use borrow.Author.Tests.{eqb-true, ne_eqb, ltb-false}
-use Rattle.book.specs.Limits.{log_length, charts_length, page_limit}
+use borrow.Author.Tests.{eqb-true, ltb-false}
+use Rattle.book.specs.Limits.{log_length, charts_length}
 use Rattle.book.specs.Rows.{Row}
 use Rattle.book.specs.Ledger.{ledger}
 use Rattle.book.specs.Rules.{allowed_log}
@@ -21,7 +21,6 @@ use Rattle.book.specs.Opening.{rejected, recovered, bad_page, checked, open_byte
 use Rattle.book.proofs.Lists.{and_l, and_r}
 use Rattle.book.proofs.InvariantKept.{few-rows}
 use Rattle.book.proofs.LogBytes.{log-exact}
-use Rattle.book.proofs.Reading.{demand-2-reading}
 use Rattle.book.proofs.Blocks.{first-within}
 use Rattle.book.proofs.Pages.{charts_as_of, charts-redone}
 use Rattle.book.proofs.AnyCharts.{marks_of, base_of, marked-any, base-bounded, charts-any}
@@ -31,11 +30,11 @@ use Rattle.state.specs.declared.ram.Fuse.{Fuse}
 use Rattle.state.specs.World.{World, right_lengths, allowance, state_of, table_of, cleared}
 use Rattle.state.specs.CallContracts.{answered, opened_world, opens}
 use Rattle.tables_model.specs.Lookup.{index_of}
-use Rattle.recovery_model.specs.Scan.{number_of_reason, Scanned, scanned}
-use Rattle.recovery_model.specs.Charts.{bad_page_by, redo_charts}
+use Rattle.recovery_model.specs.Scan.{Scanned, scanned}
+use Rattle.recovery_model.specs.Charts.{redo_charts}
 use Rattle.recovery_model.specs.Backward.{backward}
 use Rattle.recovery_model.specs.Openings.{no_index, recovered_by, checked_by, opens_by}
-use Rattle.recovery_model.proofs.ScanMeans.{all-good, scan_good, scan-bad}
+use Rattle.recovery_model.proofs.ScanMeans.{all-good, Rejects, scan_good, scan-bad}
 use Rattle.recovery_model.proofs.PagesMean.{bad-page-by}
 use Rattle.recovery_model.proofs.RedoMeans.{charts-redone-by}
 use Rattle.recovery_model.proofs.BackwardMeans.{backward-stands}
@@ -89,14 +88,9 @@ module _ (f : Fuse) (charts : List ℕ) (long : length charts ≡ charts_length)
       go false e = recovered-is rs al (let k = ltb-false (bad_page rs charts) 32 e in omega (arith, first-within 32 0 (λ p. is_page rs p (page_at charts p))))
 
   -- a log that is refused
-  bad-is : (log : List ℕ) (s : Scanned) (i n : ℕ) → s.bad ≡ n → number_of_reason s.reason ≡ i → 1 ≤ n
-      → checked_by f log charts s ≡ opened_world charts (rejected i n log)
+  bad-is : (log : List ℕ) (s : Scanned) (i n : ℕ) → Rejects s i n → checked_by f log charts s ≡ opened_world charts (rejected i n log)
   unfolding state_of table_of
-  bad-is log s i n e why h =
-      ap (λ (t : Bool). cond (not t) (answered (number_of_reason s.reason) (pos s.bad) (cleared log charts))
-      (cond (ltb (bad_page_by log s.rows charts) page_limit) (answered 4 (pos (bad_page_by log s.rows charts)) (cleared log charts)) (recovered_by f log charts s)))
-      (ne_eqb s.bad 0 (λ q. omega arith)) ∙
-      ap₂ (λ (j k : ℕ). answered j (pos k) (cleared log charts)) why e
+  bad-is log s i n r = rw (r.is, r.number)
 
   any-log : (log : List ℕ) → length log ≡ log_length → checked_by f log charts (scanned log no_index) ≡ opened_world charts (open_bytes (allowance f) log charts)
   unfolding open_bytes Demand2Reading
@@ -109,8 +103,7 @@ module _ (f : Fuse) (charts : List ℕ) (long : length charts ≡ charts_length)
           subst (λ (l : List ℕ). checked_by f l charts (all-good rs)
           ≡ opened_world charts (checked (allowance f) l charts (good rs))) (sym k.1) (good-is rs k.0)
       go (bad i n) e =
-          let k = scan-bad log i n e in
-          bad-is log (scanned log no_index) i n k.0 k.1 ((demand-2-reading log h).refuses i n e).1.from
+          bad-is log (scanned log no_index) i n (scan-bad log i n e)
 
 pub opens_by_lem : (f : Fuse) (w : World) → AreBytes w.charts → opens_by f w ≡ opens (allowance f) w
 unfolding opens_by opens

@@ -7,7 +7,9 @@ use mathlib.Core.List.{List, [], ◌∷◌, ◌++◌, append_assoc, append-nil}
 use lib.ListN.{length, length-append, get_or, take, drop, take-append-drop}
 use lib.Seq.{drop_at, drop-drop, get_or-take}
 use lib.Dec.{eqb}
-use borrow.Author.Tests.{eqb-true, eqb-false, ne_eqb}
+use Rattle.std.specs.Option.{option_or}
+use Rattle.std.specs.Prelude.{Option, Some, None}
+use borrow.Author.Tests.{eqb-true, eqb-false}
 use Rattle.book.specs.Limits.{row_limit}
 use Rattle.book.specs.Rows.{Row, undone_by, fits}
 use Rattle.book.specs.Ledger.{Ledger, empty, after, ledger}
@@ -24,17 +26,15 @@ use Rattle.rows.specs.Meaning.{coded}
 use Rattle.rows.specs.Reading.{read_by, read_of, is_blank}
 use Rattle.rows.proofs.Meanings.{meant-coded}
 use Rattle.rows.proofs.RoundTrip.{read-blank, read-zero, read-kind}
-use Rattle.tables_model.specs.declared.Verdict.TheVariants.{Allowed, Unlawful, OverLimit}
-use Rattle.tables_model.specs.Rows.{Index, judge_by}
+use Rattle.tables_model.specs.Rows.{Index, verdict, judge_by}
 use Rattle.tables_model.specs.Lookup.{index_of}
 use Rattle.tables_model.proofs.Judge.{judge-by}
 use Rattle.tables_model.proofs.Step.{step_by_lem}
 use Rattle.tables_model.proofs.Simulation.{index-empty}
+use Rattle.recovery_model.specs.declared.BadRow.{BadRow}
 use Rattle.recovery_model.specs.declared.Reason.{Reason}
 use Rattle.recovery_model.specs.declared.Reason.TheVariants.{Bytes, Rule, Limit}
-use Rattle.recovery_model.specs.declared.Judged.{Judged}
-use Rattle.recovery_model.specs.declared.Judged.TheVariants.{Taken, Ends, Bad}
-use Rattle.recovery_model.specs.Scan.{row_in, number_of_reason, Judgement, ruled, judged_read, judge_row, Scanned, scan_on, scan_from, first_set, scanned}
+use Rattle.recovery_model.specs.Scan.{row_in, number_of_reason, Judged, Taken, Ends, Bad, Judgement, ruled, judged_read, judge_row, Scanned, bad_at, scan_on, scan_from, first_set, scanned}
 use Rattle.recovery_model.specs.Openings.{no_index}
 use Rattle.recovery_model.proofs.LogRows.{next_row, row-in}
 
@@ -48,9 +48,9 @@ next-rest log bs k e = ap (λ (n : ℕ). drop n log) (at k) ∙ sym (drop-drop 1
     at k = omega arith
 
 -- no row, or the first row with a byte that is not zero
-EndsAt : ℕ → Log → Type 0
-EndsAt n (good rs) = (rs ≡ []) × (n ≡ 0)
-EndsAt n (bad i m) = (n ≡ m) × (number_of_reason Bytes ≡ i)
+EndsAt : Option BadRow → Log → Type 0
+EndsAt n (good rs) = (rs ≡ []) × (n ≡ None)
+EndsAt n (bad i m) = (n ≡ Some (bad_at m Bytes)) × (number_of_reason Bytes ≡ i)
 
 end-scanned : (m k : ℕ) (log bs : List ℕ) → drop (16 * k) log ≡ bs → EndsAt (first_set m k log) (read_end m (suc k) bs)
 unfolding EndsAt first_set
@@ -58,7 +58,7 @@ end-scanned zero k log bs e = (refl, refl)
 end-scanned (suc m) k log bs e = rw e (go (is_blank (take 16 bs)) (end-scanned m (suc k) log (drop 16 bs) (next-rest log bs k e)))
   where
     go : (t : Bool) → EndsAt (first_set m (suc k) log) (read_end m (suc (suc k)) (drop 16 bs))
-        → EndsAt (cond t (first_set m (suc k) log) (suc k)) (cond t (read_end m (suc (suc k)) (drop 16 bs)) (bad 3 (suc k)))
+        → EndsAt (cond t (first_set m (suc k) log) (Some (bad_at (suc k) Bytes))) (cond t (read_end m (suc (suc k)) (drop 16 bs)) (bad 3 (suc k)))
     go true ih = ih
     go false ih = (refl, refl)
 
@@ -103,7 +103,7 @@ module _ (rs : List Row) (al : allowed_log rs ≡ true) (log bs : List ℕ) (is 
 
   -- a row whose bytes and fields are right is judged by the row rules
   row-ruled : judged_read log (length rs) before (Valid (coded next))
-      ≡ ruled log (length rs) before next (cond (lawful (ledger rs) next) (cond (within_limits (ledger rs) next) Allowed OverLimit) Unlawful)
+      ≡ ruled log (length rs) before next (verdict (lawful (ledger rs) next) (within_limits (ledger rs) next))
   unfolding before
   row-ruled =
       ap (λ (r : Row). ruled log (length rs) before r (judge_by before (length rs) (row_in log (length rs) (undone_by r)) r)) (meant-coded next) ∙
@@ -135,7 +135,7 @@ module _ (rs : List Row) (al : allowed_log rs ≡ true) (log bs : List ℕ) (is 
       tested s f t u = cond (not s) 3 (cond (not (f && t)) 16 (cond (not u) 17 0))
 
       go : (s f t u : Bool)
-          → judged_read log (length rs) before (Valid (coded next)) ≡ ruled log (length rs) before next (cond t (cond u Allowed OverLimit) Unlawful)
+          → judged_read log (length rs) before (Valid (coded next)) ≡ ruled log (length rs) before next (verdict t u)
           → eqb (tested s f t u) 0 ≡ false
           → Refused (judged_read log (length rs) before (read_by s f (take 16 bs))) before (tested s f t u)
       go false f t u valid e = record { why = Bytes; is = refl; number = refl }
@@ -148,24 +148,27 @@ module _ (rs : List Row) (al : allowed_log rs ≡ true) (log bs : List ℕ) (is 
 
 -- what is made of the rows that were found: the bytes after them have to be zero
 abbrev ended : List ℕ → Scanned → Scanned
-ended log s = cond (eqb s.bad 0) (record { rows = s.rows; bad = first_set (row_limit - s.rows) s.rows log; reason = Bytes; index = s.index }) s
+ended log s = record { rows = s.rows; bad = option_or s.bad (first_set (row_limit - s.rows) s.rows log); index = s.index }
 
 -- so many rows, none of them bad
 abbrev pub all-good : List Row → Scanned
-all-good rs = record { rows = length rs; bad = 0; reason = Bytes; index = index_of (ledger rs) }
+all-good rs = record { rows = length rs; bad = None; index = index_of (ledger rs) }
+
+-- row n is the first bad one, for a reason with this number
+pub record Rejects (s : Scanned) (i n : ℕ) : Type 0 where
+  pub why : Reason
+  pub is : s.bad ≡ Some (bad_at n why)
+  pub number : number_of_reason why ≡ i
 
 -- the check finds what is read: after these rows others and their tables, or the first bad row and its number
 Finds : List Row → Scanned → Log → Type 0
 Finds rs s (good more) = s ≡ all-good (rs ++ more)
-Finds rs s (bad i n) = (s.bad ≡ n) × (number_of_reason s.reason ≡ i)
+Finds rs s (bad i n) = Rejects s i n
 
 finds-cons : (rs : List Row) (r : Row) (s : Scanned) (x : Log) → Finds (rs ++ (r ∷ [])) s x → Finds rs s (cons_log r x)
 unfolding Finds
 finds-cons rs r s (good more) f = f ∙ ap all-good (append_assoc rs (r ∷ []) more)
 finds-cons rs r s (bad i n) f = f
-
-ended-bad : (log : List ℕ) (s : Scanned) → 1 ≤ s.bad → ended log s ≡ s
-ended-bad log s h = rw (ne_eqb s.bad 0 (λ q. omega arith))
 
 -- the log ends after these rows
 finds-end : (rs : List Row) (m : ℕ) (log : List ℕ) (x : Log) → length rs + m ≡ row_limit → EndsAt (first_set m (length rs) log) x
@@ -174,7 +177,9 @@ unfolding EndsAt Finds
 finds-end rs m log (good more) h k =
     let left : row_limit - length rs ≡ m = omega arith in
     rw (left, k.1, k.0, append-nil rs)
-finds-end rs m log (bad i n) h k = let left : row_limit - length rs ≡ m = omega arith in rw left k
+finds-end rs m log (bad i n) h k =
+    let left : row_limit - length rs ≡ m = omega arith in
+    record { why = Bytes; is = rw (left, k.0); number = k.1 }
 
 scan-finds : (m : ℕ) (rs : List Row) → allowed_log rs ≡ true → (log bs : List ℕ) → log ≡ rows_bytes 1 rs ++ bs → length rs + m ≡ row_limit
     → Finds rs (ended log (scan_from m (length rs) log (index_of (ledger rs)))) (read_rows m (suc (length rs)) (ledger rs) bs)
@@ -204,10 +209,7 @@ scan-finds (suc m) rs al log bs is h =
 
     -- the row is bad
     refused : {i : ℕ} → Refused (judge_row log k x) x i → Finds rs (at (judge_row log k x)) (bad i (suc k))
-    refused r =
-        let s : Scanned = record { rows = k; bad = suc k; reason = r.why; index = x } in
-        let is : at (judge_row log k x) ≡ s = ap at r.is ∙ ended-bad log s (omega arith) in
-        (ap (λ (s : Scanned). s.bad) is, ap (λ (s : Scanned). number_of_reason s.reason) is ∙ r.number)
+    refused r = record { why = r.why; is = ap (λ (j : Judgement). (at j).bad) r.is; number = r.number }
 
     -- the log ends here
     ends : get_or bs 0 0 ≡ 0 → (t : Bool) → is_blank (take 16 bs) ≡ t
@@ -262,7 +264,6 @@ unfolding Finds
 scan_good log rs e = subst (Finds [] (scanned log no_index)) e (log-finds log)
 
 -- a log that is refused: the first bad row, and the number of the reason
-pub scan-bad : (log : List ℕ) (i n : ℕ) → read_log log ≡ bad i n
-    → ((scanned log no_index).bad ≡ n) × (number_of_reason (scanned log no_index).reason ≡ i)
+pub scan-bad : (log : List ℕ) (i n : ℕ) → read_log log ≡ bad i n → Rejects (scanned log no_index) i n
 unfolding Finds
 scan-bad log i n e = subst (Finds [] (scanned log no_index)) e (log-finds log)

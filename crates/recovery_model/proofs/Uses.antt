@@ -7,7 +7,7 @@ use mathlib.Core.List.{List, ◌∷◌}
 use lib.ListN.{length}
 use lib.IntN.{pos}
 use lib.Dec.{eqb}
-use Rattle.book.specs.Lists.{tabulate, foldl, member}
+use Rattle.book.specs.Lists.{tabulate, foldl}
 use Rattle.book.specs.Rows.{Row}
 use Rattle.book.specs.Book.{done}
 use Rattle.book.specs.Numbers.{AreBytes}

@@ -1,12 +1,12 @@
 -- What format and open give back and leave.
-use Rattle.std.specs.Prelude.{ℕ, ◌≡◌, cond, not, List, [], length, ℤ, pos, eqb, ltb}
+use Rattle.std.specs.Prelude.{ℕ, ◌≡◌, Result, cond, not, List, [], length, ℤ, pos, eqb, ltb}
 use Rattle.book.specs.Limits.{cell_limit}
 use Rattle.book.specs.Book as book
 use Rattle.book.specs.Writes.{Few}
 use Rattle.book.specs.LogBytes.{log_bytes}
 use Rattle.book.specs.Pages.{chart_bytes, page_after}
-use Rattle.state.specs.declared.answers.Answer.{Answer}
-use Rattle.state.specs.Answers.{number_and_value, rows_and_pages, written, refusal, case_of, HasCase}
+use Rattle.state.specs.declared.answers.Refusal.{Refusal}
+use Rattle.state.specs.Answers.{checked, rows_and_pages, written, refusal, case_of, HasCase}
 use Rattle.state.specs.CallContracts.{Answered, bad_cell, cells_of}
 use Rattle.journal.specs.declared.Outcome.{Outcome}
 use Rattle.journal.specs.Outcomes.{outcome, Zeroed, Bounded}
@@ -19,8 +19,8 @@ pub record Formatted : Type 0 where
   pub log : List ℕ
   pub charts : List ℕ
 
-abbrev pub formatted_as : Answer → List ℕ → List ℕ → Formatted
-formatted_as r log charts = record { answer = number_and_value r; log = log; charts = charts }
+abbrev pub formatted_as : Result (Unit {0}) Refusal → List ℕ → List ℕ → Formatted
+formatted_as r log charts = record { answer = checked r; log = log; charts = charts }
 
 -- 01, format, of a log and charts of their lengths: it clears RAM besides
 unfoldable pub format_bytes : List ℤ → List ℕ → List ℕ → Formatted

@@ -1,5 +1,5 @@
 -- The check of the pages against the log, and the forward part of an opening, page by page.
-use Rattle.std.specs.Prelude.{ℕ, zero, suc, ◌-◌, ◌/◌, ◌%◌, ◌≤◌, ◌<◌, Bool, cond, ◌&&◌, ◌||◌, List, eqb, get_or}
+use Rattle.std.specs.Prelude.{ℕ, zero, suc, ◌-◌, ◌/◌, ◌%◌, ◌≤◌, ◌<◌, Bool, cond, ◌&&◌, ◌||◌, Option, Some, None, List, eqb, ltb, get_or}
 use Rattle.book.specs.Lists.{first_failing, tabulate, join}
 use Rattle.book.specs.Limits.{places, page_limit}
 use Rattle.book.specs.Rows.{Effect, nothing, moves, effect}
@@ -14,6 +14,10 @@ use Rattle.recovery_model.specs.Scan.{row_in}
 -- 01, open, pages: the mark is 0 or a change or undo row of that page, and the bytes are sound
 unfoldable pub is_page_by : List ℕ → ℕ → ℕ → List ℕ → Bool
 is_page_by log rows p bs = (eqb (page_of bs).mark 0 || on_page p (row_in log rows (page_of bs).mark)) && is_sound bs
+
+-- a number below the limit; a search that finds nothing gives the limit
+abbrev pub below : ℕ → ℕ → Option ℕ
+below limit n = cond (ltb n limit) (Some n) None
 
 -- the first page that fails, or 32
 unfoldable pub bad_page_by : List ℕ → ℕ → List ℕ → ℕ

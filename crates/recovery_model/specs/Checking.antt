@@ -1,13 +1,14 @@
 -- What the functions that check a log and recover ask, and what the check gives back.
-use Rattle.std.specs.Prelude.{ℕ, ◌≤◌, ◌<◌, ◌≡◌, List}
+use Rattle.std.specs.Prelude.{ℕ, ◌≤◌, ◌<◌, ◌≡◌, Option, Some, None, Result, Ok, Err, List}
 use Rattle.book.specs.Limits.{row_limit, log_length, charts_length}
+use Rattle.tables_model.specs.declared.Counts.{Counts}
 use Rattle.tables_model.specs.Visits.{InRange}
 use Rattle.tables_model.specs.Layout.{visits_length, flat_length}
 use Rattle.tables_model.specs.Rows.{index}
 use Rattle.state.specs.World.{tail_length}
-use Rattle.recovery_model.specs.declared.JudgedRow.{JudgedRow}
 use Rattle.recovery_model.specs.declared.LogScan.{LogScan}
-use Rattle.recovery_model.specs.Scan.{Judgement, Scanned}
+use Rattle.recovery_model.specs.declared.Reason.{Reason}
+use Rattle.recovery_model.specs.Scan.{Judgement, Taken, Ends, Bad, Scanned}
 
 -- a log of its length, of which the first k rows are looked at
 pub record Rows (size k : ℕ) : Type 0 where
@@ -19,13 +20,15 @@ pub record Next (size k : ℕ) : Type 0 where
   pub long : size ≡ log_length
   pub below : k < row_limit
 
--- what a row came to, with the flat tables after it
-abbrev pub judgement : JudgedRow → List ℕ → List ℕ → Judgement
-judgement r visits scopes = record { judged = r.judged; index = index r.counts visits scopes }
+-- what a row came to after these counters, with the flat tables after it: the counters change where it was taken
+abbrev pub judgement : Counts → Result (Option Counts) Reason → List ℕ → List ℕ → Judgement
+judgement t (Ok (Some next)) visits scopes = record { judged = Taken; index = index next visits scopes }
+judgement t (Ok None) visits scopes = record { judged = Ends; index = index t visits scopes }
+judgement t (Err why) visits scopes = record { judged = Bad why; index = index t visits scopes }
 
 -- what the check of a log found, with the flat tables after it
 abbrev pub found : LogScan → List ℕ → List ℕ → Scanned
-found s visits scopes = record { rows = s.rows; bad = s.bad; reason = s.reason; index = index s.counts visits scopes }
+found s visits scopes = record { rows = s.rows; bad = s.bad; index = index s.counts visits scopes }
 
 -- the lengths of the stored bytes and of the arrays of RAM
 pub record Lengths (log charts copy tail visits scopes : ℕ) : Type 0 where
@@ -35,6 +38,11 @@ pub record Lengths (log charts copy tail visits scopes : ℕ) : Type 0 where
   pub tail-long : tail ≡ tail_length
   pub visits-long : visits ≡ visits_length
   pub scopes_long : scopes ≡ flat_length
+
+-- so many rows as a log has at most, and counters within the tables
+pub record Sound (s : LogScan) : Type 0 where
+  pub rows : s.rows ≤ row_limit
+  pub range : InRange s.counts.count s.counts.used
 
 -- what the forward and the backward part ask: the lengths, and counters within them
 pub record Recovers (s : LogScan) (log copy tail visits scopes : ℕ) : Type 0 where

@@ -1,5 +1,5 @@
 -- An opening from its checks to what it gives back and leaves, for whatever it is handed.
-use Rattle.std.specs.Prelude.{ℕ, ◌-◌, cond, not, List, replicate, pos, eqb, ltb}
+use Rattle.std.specs.Prelude.{ℕ, ◌-◌, cond, Option, Some, None, List, replicate, pos, ltb}
 use Rattle.tables_model.specs.Meaning.{scope_of, no_tables, vacant}
 use Rattle.book.specs.Limits.{active_limit, scope_limit, page_limit}
 use Rattle.book.specs.Scopes.{unused}
@@ -11,6 +11,7 @@ use Rattle.book.specs.Writes.{Writes}
 use Rattle.tables_model.specs.Rows.{Index}
 use Rattle.journal.specs.Journal.{Journal}
 use Rattle.wal.specs.Writing.{Ram, row_count, is_running}
+use Rattle.recovery_model.specs.declared.BadRow.{BadRow}
 use Rattle.recovery_model.specs.Scan.{number_of_reason, Scanned, scanned}
 use Rattle.recovery_model.specs.Charts.{bad_page_by, redo_charts}
 use Rattle.recovery_model.specs.Backward.{backward}
@@ -53,12 +54,16 @@ backward_from f log charts s copy = settled_opening s.rows s.index.tables.begun 
 abbrev pub recovered_by : Fuse → List ℕ → List ℕ → Scanned → Answered
 recovered_by f log charts s = backward_from f log charts s (redo_charts log s.rows charts)
 
+-- a bad row refuses the log, and the world is this then
+abbrev pub unless_bad : Option BadRow → World → Answered → Answered
+unless_bad (Some b) w passed = answered (number_of_reason b.reason) (pos b.row.0) w
+unless_bad None w passed = passed
+
 abbrev pub checked_by : Fuse → List ℕ → List ℕ → Scanned → Answered
 checked_by f log charts s =
     let p : ℕ = bad_page_by log s.rows charts in
     let ok : Answered = recovered_by f log charts s in
-    cond (not (eqb s.bad 0)) (answered (number_of_reason s.reason) (pos s.bad) (cleared log charts))
-    (cond (ltb p page_limit) (answered 4 (pos p) (cleared log charts)) ok)
+    unless_bad s.bad (cleared log charts) (cond (ltb p page_limit) (answered 4 (pos p) (cleared log charts)) ok)
 
 unfoldable pub opens_by : Fuse → World → Answered
 opens_by f w = cond (right_lengths w) (checked_by f w.log w.charts (scanned w.log no_index)) (answered 1 (pos 0) w)

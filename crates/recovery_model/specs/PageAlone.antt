@@ -1,6 +1,6 @@
 -- 02, L3: a page redone alone, by the log and that page's 32 bytes with its number, for any bytes: what it answers, the page that it leaves, and what the
 -- 32 pages give together. The opening comes in by `specs/ForwardByPages`.
-use Rattle.std.specs.Prelude.{ℕ, ◌+◌, ◌*◌, ◌<◌, Bool, true, cond, not, ◌&&◌, ◌≡◌, List, [], ◌∷◌, map, length, get_or, take, drop, pos, ◌+ℤ◌, eqb, ltb}
+use Rattle.std.specs.Prelude.{ℕ, ◌+◌, ◌*◌, ◌<◌, Bool, true, cond, not, ◌&&◌, ◌≡◌, Result, List, [], ◌∷◌, map, length, get_or, take, drop, pos, ◌+ℤ◌, eqb, ltb}
 use Rattle.std.proofs.lemmas.List.Edits.{sets}
 use Rattle.book.specs.Lists.{first_failing, tabulate, join, total, foldl, member}
 use Rattle.book.specs.Limits.{row_limit, row_length, log_length, places, page_limit, page_length, charts_length}
@@ -13,8 +13,8 @@ use Rattle.book.specs.RowBytes.{row_of}
 use Rattle.book.specs.LogBytes.{good, read_log}
 use Rattle.book.specs.Pages.{Page, page_bytes, chart_bytes, page_at, page_of, is_page, redone}
 use Rattle.book.specs.Opening.{bad_page}
-use Rattle.state.specs.declared.answers.Answer.{Answer}
-use Rattle.state.specs.Answers.{number_and_value}
+use Rattle.state.specs.declared.answers.Refusal.{Refusal}
+use Rattle.state.specs.Answers.{checked}
 use Rattle.state.specs.CallContracts.{with_page}
 
 -- the kind of row k, counted from 0, is another than 0
@@ -45,8 +45,8 @@ pub record RedoneAlone : Type 0 where
   pub page : List ℕ
 
 -- by the function's own answer
-abbrev pub redone_as : Answer → List ℕ → RedoneAlone
-redone_as r page = record { answer = number_and_value r; page = page }
+abbrev pub redone_as : Result (Unit {0}) Refusal → List ℕ → RedoneAlone
+redone_as r page = record { answer = checked r; page = page }
 
 -- page p, whatever log and bytes are lent: 1 for a length, then 14 for a page above 31, and a refusal leaves the page
 unfoldable pub redone_alone : List ℕ → ℕ → List ℕ → RedoneAlone

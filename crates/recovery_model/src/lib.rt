@@ -4,7 +4,11 @@
 // proved.
 #![tactic(auto)]
 
-use tables_model::Counts;
+ghost use Rattle.std.specs.Prelude.{◌≡◌};
+ghost use Rattle.recovery_model.specs.Scan.{reason_of};
+
+use rows::Lsn;
+use tables_model::{Breach, Counts};
 
 // Why a row of a log is not allowed: its bytes are no row's, a row rule forbids it, or a limit does.
 #[derive(Clone, Copy)]
@@ -14,27 +18,28 @@ pub enum Reason {
     Limit,
 }
 
-// What the check of a log makes of one row: it is taken, it is blank and ends the log, or it is not allowed.
-#[derive(Clone, Copy)]
-pub enum Judged {
-    Taken,
-    Ends,
-    Bad(Reason),
+impl From<Breach> for Reason {
+    ghost from_gives = { λ b reason. reason ≡ reason_of b };
+
+    fn from(b: Breach) -> Reason {
+        match b {
+            Breach::Rule => Reason::Rule,
+            Breach::Limit => Reason::Limit,
+        }
+    }
 }
 
-// What one row comes to, and the counters of the tables after it.
+// A row that is not allowed.
 #[derive(Clone, Copy)]
-pub struct JudgedRow {
-    pub judged: Judged,
-    pub counts: Counts,
+pub struct BadRow {
+    pub row: Lsn,
+    pub reason: Reason,
 }
 
-// What the check of a log found: so many rows, the first bad row with the reason, and the counters of the tables after the rows. The bad row is 0 for
-// none, and the reason then says nothing.
+// What the check of a log found: so many rows, the counters of the tables after them, and the first bad row, if there is one.
 #[derive(Clone, Copy)]
 pub struct LogScan {
     pub rows: usize,
-    pub bad: usize,
-    pub reason: Reason,
     pub counts: Counts,
+    pub bad: Option<BadRow>,
 }
