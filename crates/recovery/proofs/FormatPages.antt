@@ -1,5 +1,5 @@
 -- What format leaves: the pages that it builds are the book's pages of no rows, and the zeros of the log are its bytes of no rows. Assumes nothing.
-use Rattle.std.proofs.Common.{◌≡◌, ℕ, ◌*◌, ◌<◌, ◌≤◌, List, [], ◌++◌, length, take, drop, replicate, ℤ, pos, sym, ap, ◌∙◌, arith, get_or-drop, get_or-take, le-ltb, eq-eqb}
+use Rattle.std.proofs.Common.{◌≡◌, ℕ, ◌*◌, ◌<◌, ◌≤◌, List, [], ◌++◌, length, take, drop, replicate, ℤ, pos, Ok, sym, ap, ◌∙◌, arith, get_or-drop, get_or-take, le-ltb, eq-eqb}
 use lib.IntN.{+ℤ_idr}
 use Rattle.book.specs.Lists.{tabulate, join}
 use Rattle.book.specs.Numbers.{le, bits_of}
@@ -7,7 +7,6 @@ use Rattle.book.specs.Pages.{page_bytes, chart_bytes, page_after}
 use Rattle.book.proofs.Blocks.{tabulate-same}
 use Rattle.book.specs.LogBytes.{log_bytes}
 use Rattle.charts.specs.Build.{from_cells}
-use Rattle.state.specs.declared.answers.Answer.TheVariants.{Done}
 use Rattle.state.specs.CallContracts.{bad_cell, cells_of}
 use Rattle.recovery_model.specs.Answering.{formatted_as, format_bytes}
 
@@ -38,6 +37,6 @@ unfolding log_bytes
 no_rows n bs e h = e ∙ ap (λ (k : ℕ). replicate k 0) h
 
 pub formatted-done : (values : List ℤ) (log charts : List ℕ) → length values ≡ 224 → 224 ≤ bad_cell values
-    → format_bytes values log charts ≡ formatted_as Done (log_bytes []) (chart_bytes (page_after (cells_of values) []))
+    → format_bytes values log charts ≡ formatted_as (Ok tt) (log_bytes []) (chart_bytes (page_after (cells_of values) []))
 unfolding format_bytes
 formatted-done values log charts n k = rw (eq-eqb (length values) 224 n, le-ltb (bad_cell values) 224 k)

@@ -3,6 +3,7 @@ pub mod ScanTurns
 pub mod Bounds
 pub mod PageTurns
 pub mod Laying
+pub mod Searches
 pub mod FormatPages
 pub mod BackwardSteps
 pub mod Settling

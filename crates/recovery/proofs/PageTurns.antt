@@ -1,5 +1,5 @@
 -- The turns of the loops over pages and rows of the forward part, and a row of a page by its bytes. Assumes nothing.
-use Rattle.std.proofs.Common.{◌≡◌, ℕ, zero, suc, ◌+◌, ◌-◌, ◌*◌, ◌/◌, ◌%◌, ◌<◌, ◌≤◌, Bool, true, false, cond, eqb, leb, List, length, get_or, ℤ, sym, refl, ap, ◌∙◌, add-zero, add-one, arith, eq-eqb, ne_eqb, leb-false, leb-true}
+use Rattle.std.proofs.Common.{◌≡◌, ℕ, zero, suc, ◌+◌, ◌-◌, ◌*◌, ◌/◌, ◌%◌, ◌<◌, ◌≤◌, Bool, true, false, cond, eqb, List, length, get_or, ℤ, sym, refl, ap, ◌∙◌, add-zero, add-one, arith, eq-eqb, ne_eqb}
 use Rattle.book.specs.Lists.{first_failing}
 use Rattle.book.specs.Numbers.{number}
 use Rattle.book.specs.Rows.{Row, Effect, nothing, moves, effect}
@@ -38,16 +38,12 @@ redone-by-cell : (b : List ℕ) (p n : ℕ) (bs : List ℕ) → let e = effect (
 redone-by-cell b p n bs = rw (add-zero (get_or b 3 0)) (redone-by-kind (number 1 b 0) _ _ (get_or b 3 0) _ _ p n bs)
 
 -- the cell is on the page exactly if it is one of 7 from the page's first on: a difference that wraps is too large
-module _ (b : List ℕ) (p d n : ℕ) (bs : List ℕ) (small : p < 32) (byte : d < 256) (wraps : (d + 7 * p) % 256 ≡ get_or b 3 0) where
-  pub redone-here : d < 7 → page_redone p (effect (row_of b)) n bs ≡ page_with (effect (row_of b)) n bs
-  redone-here h = redone-by-cell b p n bs ∙ rw (eq-eqb (get_or b 3 0 / 7) p (omega arith))
+module _ (b : List ℕ) (p cell n : ℕ) (bs : List ℕ) (small : p < 32) (byte : cell < 256) (is : get_or b 3 0 ≡ cell) where
+  pub redone-here : (cell + (256 - 7 * p)) % 256 < 7 → page_redone p (effect (row_of b)) n bs ≡ page_with (effect (row_of b)) n bs
+  redone-here h = redone-by-cell b p n bs ∙ rw (is, eq-eqb (cell / 7) p (omega arith))
 
-  pub redone-elsewhere : 7 ≤ d → page_redone p (effect (row_of b)) n bs ≡ bs
-  redone-elsewhere h = redone-by-cell b p n bs ∙ rw (ne_eqb (get_or b 3 0 / 7) p (go (leb 256 (d + 7 * p)) refl))
-    where
-      go : (t : Bool) → leb 256 (d + 7 * p) ≡ t → get_or b 3 0 / 7 ≡ p → ⊥
-      go true e on = let l = leb-true 256 (d + 7 * p) e in omega arith
-      go false e on = let l = leb-false 256 (d + 7 * p) e in omega arith
+  pub redone-elsewhere : 7 ≤ (cell + (256 - 7 * p)) % 256 → page_redone p (effect (row_of b)) n bs ≡ bs
+  redone-elsewhere h = redone-by-cell b p n bs ∙ rw (is, ne_eqb (cell / 7) p (λ on. omega arith))
 
 -- ── Rows applied to a page ────────────────────────────────────────────────────────────────────────────────────────────
 

@@ -1,7 +1,7 @@
 -- What an opening comes to at its end: refused, with RAM zero, or ready. Assumes nothing.
-use Rattle.std.proofs.Common.{◌≡◌, ℕ, ◌+◌, ◌-◌, ◌≤◌, List, replicate, refl, ◌∙◌, inl, inr, arith}
+use Rattle.std.proofs.Common.{◌≡◌, ℕ, ◌+◌, ◌-◌, ◌≤◌, List, Ok, replicate, refl, ◌∙◌, inl, inr, arith}
 use Rattle.book.specs.Writes.{Few}
-use Rattle.state.specs.declared.answers.Answer.TheVariants.{Wrote}
+use Rattle.state.specs.declared.answers.Done.TheVariants.{Wrote}
 use Rattle.state.specs.declared.ram.Phase.TheVariants.{Open}
 use Rattle.state.specs.Answers.{Case, number_and_value, rows_and_pages, written, refusal, case_of}
 use Rattle.state.specs.World.{cleared}
@@ -16,6 +16,10 @@ use Rattle.wal.specs.Writing.{ram}
 use Rattle.wal.proofs.Clearing.{zeroed-outcome}
 use Rattle.recovery_model.specs.Answering.{OpenOutcome}
 use Rattle.recovery_model.specs.Openings.{settled_opening}
+
+-- an array of a known length that is all zeros
+pub zeros : (n m : ℕ) → n ≡ m → replicate {A = ℕ} n 0 ≡ replicate m 0
+zeros n m e = rw e
 
 -- RAM is cleared, and log and charts are as they are
 pub opening-refused : (x : Answered) (r : Outcome) (log charts copy tail visits scopes : List ℕ) → case_of r.answer ≡ refusal
@@ -35,7 +39,7 @@ no-refusal e = let z : ◌≡◌ {A = ℕ} 0 1 = cc in omega arith
 -- what a ready opening gives back
 abbrev pub ready : Control → ℕ → ℕ → ℕ → Outcome
 ready c begun n rows = record {
-  answer = Wrote n;
+  answer = Ok (Wrote n);
   control = c;
   counts = record { begun = begun; count = 0; used = 0 };
   writes = record { rows = rows; pages = 0 };

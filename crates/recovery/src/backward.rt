@@ -32,11 +32,8 @@ fn abort_all(
         ≡ abort_all count (actives visits.now) (ram c log.old tail.old copy.old) }
 {
     let mut d = c;
-    let mut n = count;
-    while 0 < n {
-        n -= 1;
-        let a = active_at(visits, n);
-        let v = a.visit;
+    for n in (0..count).rev() {
+        let v = active_at(visits, n).visit;
         d = write(d, log, tail, copy, Row::Abort(v));
     }
     d
@@ -60,7 +57,7 @@ pub fn backward(
     let t = s.counts;
     let c = Control {
         phase: Phase::Open,
-        fuse: fuse,
+        fuse,
         stored: s.rows,
         waiting: 0,
     };

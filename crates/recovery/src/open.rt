@@ -1,12 +1,11 @@
 // An opening from its checks to what it gives back and leaves; for whatever it is handed.
 ghost use Rattle.std.specs.Prelude.{◌≡◌, ℕ, ◌+◌, ◌-◌, ◌≤◌, List, length, pos};
 ghost use Rattle.book.specs.Book.{answer};
-ghost use Rattle.book.specs.Limits.{row_limit, charts_length, tail_limit};
-ghost use Rattle.state.specs.Answers.{number_and_value, refusal, case_of};
-ghost use Rattle.tables_model.specs.Layout.{flat_length, visits_length};
-ghost use Rattle.state.specs.World.{tail_length};
+ghost use Rattle.book.specs.Limits.{row_limit, log_length, charts_length, tail_limit};
+ghost use Rattle.state.specs.Answers.{refusal_answer};
 ghost use Rattle.wal.specs.Writing.{ram};
-ghost use Rattle.recovery_model.specs.Checking.{Lengths, Recovers, found};
+ghost use Rattle.wal.specs.Arrays.{left};
+ghost use Rattle.recovery_model.specs.Checking.{Sound, found};
 ghost use Rattle.recovery_model.specs.Answering.{OpenOutcome};
 ghost use Rattle.recovery_model.specs.Scan.{number_of_reason, scanned};
 ghost use Rattle.recovery_model.specs.Openings.{no_index, settled_opening, recovered_by, checked_by};
@@ -14,24 +13,21 @@ ghost use Rattle.recovery_model.specs.Openings.{no_index, settled_opening, recov
 use crate::backward::backward;
 use crate::pages::{bad_page, redo};
 use crate::scan::scan_log;
-use journal::landed::rows_between;
-use journal::writes::clear;
 use journal::{Control, Outcome};
-use recovery_model::{LogScan, Reason};
-use rows::Lsn;
-use rows::limits::PAGE_LIMIT;
-use state::answers::{Answer, Writes, no_writes};
+use recovery_model::{BadRow, LogScan, Reason};
+use rows::limits::{CHARTS_LENGTH, TAIL_LENGTH};
+use state::answers::{Done, Refusal, Writes};
 use state::ram::{Fuse, Phase};
+use tables::layout::{FLAT_LENGTH, VISITS_LENGTH};
 use tables_model::Counts;
-use wal::clear::clear_ram;
+use wal::ram::Ram;
 
 // The rows that an opening wrote after the first `rows`.
 fn rows_written(c: Control, rows: usize) -> u16
     requires { c.stored + c.waiting ≤ row_limit }
     ensures { result ≡ c.stored + c.waiting - rows }
 {
-    let all = c.stored + c.waiting;
-    if rows < all { (all - rows) as u16 } else { 0 }
+    (c.stored + c.waiting).saturating_sub(rows) as u16
 }
 
 // Ready, with nobody active after so many begin rows, or the power failed on the way.
@@ -39,41 +35,39 @@ fn settle(
     c: Control,
     rows: usize,
     begun: u16,
-    copy: &mut [u8],
-    tail: &mut [u8],
-    visits: &mut [u16],
-    scopes: &mut [u16],
+    copy: &mut [u8; CHARTS_LENGTH],
+    tail: &mut [u8; TAIL_LENGTH],
+    visits: &mut [u16; VISITS_LENGTH],
+    scopes: &mut [u16; FLAT_LENGTH],
 ) -> Outcome
-    requires waiting_le_tail_limit { (c.waiting ≤ tail_limit) × (c.stored + c.waiting ≤ row_limit) }
-    requires copy_len { (length copy.old ≡ charts_length) × (length tail.old ≡ tail_length) × (length visits.old ≡ visits_length) × (length scopes.old ≡ flat_length) }
+    requires { (c.waiting ≤ tail_limit) × (c.stored + c.waiting ≤ row_limit) }
     ensures { (log charts : List ℕ) → OpenOutcome (settled_opening rows begun (ram c log tail.old copy.old) charts)
         result log charts copy.new tail.new visits.new scopes.new }
 {
-    let landed = rows_between(rows, c.stored);
     let writes = Writes {
-        rows: landed,
+        rows: c.stored.saturating_sub(rows),
         pages: 0,
     };
-    let phase = c.phase;
-    match phase {
-        Phase::Closed => {
-            return clear_ram(copy, tail, visits, scopes, Answer::Closed, writes);
-        }
-        Phase::Open => {}
-    }
-    let n = rows_written(c, rows);
-    tables::entries::clear(visits);
-    tables::entries::clear(scopes);
-    let none = Counts {
-        begun: begun,
-        count: 0,
-        used: 0,
+    let Phase::Open = c.phase else {
+        let ram = Ram {
+            copy,
+            tail,
+            visits,
+            scopes,
+        };
+        return ram.clear(Err(Refusal::Closed), writes);
     };
+    visits.fill(0);
+    scopes.fill(0);
     Outcome {
-        answer: Answer::Wrote(n),
+        answer: Ok(Done::Wrote(rows_written(c, rows))),
         control: c,
-        counts: none,
-        writes: writes,
+        counts: Counts {
+            begun,
+            count: 0,
+            used: 0,
+        },
+        writes,
     }
 }
 
@@ -83,33 +77,31 @@ fn recover(
     s: LogScan,
     log: &mut [u8],
     charts: &[u8],
-    copy: &mut [u8],
-    tail: &mut [u8],
-    visits: &mut [u16],
-    scopes: &mut [u16],
+    copy: &mut [u8; CHARTS_LENGTH],
+    tail: &mut [u8; TAIL_LENGTH],
+    visits: &mut [u16; VISITS_LENGTH],
+    scopes: &mut [u16; FLAT_LENGTH],
 ) -> Outcome
-    requires recovers { Recovers s (length log.old) (length copy.old) (length tail.old) (length visits.old) (length scopes.old) }
-    requires charts_len { length charts.now ≡ charts_length }
+    requires lengths { (length log.old ≡ log_length) × (length charts.now ≡ charts_length) }
+    requires sound { Sound s }
     ensures { OpenOutcome (recovered_by fuse log.old charts.now (found s visits.old scopes.old))
         result log.new charts.now copy.new tail.new visits.new scopes.new }
 {
-    let rows = s.rows;
-    let t = s.counts;
     copy.copy_from_slice(charts);
-    redo(log, rows, copy);
-    clear(tail);
+    redo(log, s.rows, copy);
+    tail.fill(0);
     let c = backward(fuse, s, log, tail, copy, visits, scopes);
-    settle(c, rows, t.begun, copy, tail, visits, scopes)
+    settle(c, s.rows, s.counts.begun, copy, tail, visits, scopes)
 }
 
 // What is answered of a bad row.
-fn bad_row(reason: Reason, row: Lsn) -> Answer
-    ensures { (number_and_value result ≡ answer (number_of_reason reason) (pos row.0)) × (case_of result ≡ refusal) }
+fn refusal_of(bad: BadRow) -> Refusal
+    ensures { refusal_answer result ≡ answer (number_of_reason bad.reason) (pos bad.row.0) }
 {
-    match reason {
-        Reason::Bytes => Answer::WrongBytes(row),
-        Reason::Rule => Answer::BreaksRule(row),
-        Reason::Limit => Answer::OverLimit(row),
+    match bad.reason {
+        Reason::Bytes => Refusal::WrongBytes(bad.row),
+        Reason::Rule => Refusal::BreaksRule(bad.row),
+        Reason::Limit => Refusal::OverLimit(bad.row),
     }
 }
 
@@ -119,51 +111,45 @@ fn open_scanned(
     s: LogScan,
     log: &mut [u8],
     charts: &[u8],
-    copy: &mut [u8],
-    tail: &mut [u8],
-    visits: &mut [u16],
-    scopes: &mut [u16],
+    copy: &mut [u8; CHARTS_LENGTH],
+    tail: &mut [u8; TAIL_LENGTH],
+    visits: &mut [u16; VISITS_LENGTH],
+    scopes: &mut [u16; FLAT_LENGTH],
 ) -> Outcome
-    requires recovers { Recovers s (length log.old) (length copy.old) (length tail.old) (length visits.old) (length scopes.old) }
-    requires bad_le_row_limit { (s.bad ≤ row_limit) × (length charts.now ≡ charts_length) }
+    requires lengths { (length log.old ≡ log_length) × (length charts.now ≡ charts_length) }
+    requires sound { Sound s }
     ensures { OpenOutcome (checked_by fuse log.old charts.now (found s visits.old scopes.old))
         result log.new charts.now copy.new tail.new visits.new scopes.new }
 {
-    let nothing = no_writes();
-    let bad = s.bad;
-    let reason = s.reason;
-    if bad != 0 {
-        let answer = bad_row(reason, Lsn(bad as u16));
-        return clear_ram(copy, tail, visits, scopes, answer, nothing);
-    }
-    let p = bad_page(log, s.rows, charts);
-    if p < PAGE_LIMIT {
-        return clear_ram(
-            copy,
-            tail,
-            visits,
-            scopes,
-            Answer::BadPage(p as u8),
-            nothing,
-        );
-    }
-    recover(fuse, s, log, charts, copy, tail, visits, scopes)
+    let refusal = if let Some(bad) = s.bad {
+        refusal_of(bad)
+    } else if let Some(p) = bad_page(log, s.rows, charts) {
+        Refusal::BadPage(p as u8)
+    } else {
+        return recover(fuse, s, log, charts, copy, tail, visits, scopes);
+    };
+    let ram = Ram {
+        copy,
+        tail,
+        visits,
+        scopes,
+    };
+    ram.clear(Err(refusal), Writes::default())
 }
 
-// Nothing is taken from copy, tail, visits and scopes but their lengths.
-pub fn open(
-    fuse: Fuse,
-    log: &mut [u8],
-    charts: &[u8],
-    copy: &mut [u8],
-    tail: &mut [u8],
-    visits: &mut [u16],
-    scopes: &mut [u16],
-) -> Outcome
-    requires { Lengths (length log.old) (length charts.now) (length copy.old) (length tail.old) (length visits.old) (length scopes.old) }
-    ensures { OpenOutcome (checked_by fuse log.old charts.now (scanned log.old no_index))
-        result log.new charts.now copy.new tail.new visits.new scopes.new }
+// Nothing is taken from what the arrays of RAM had.
+pub fn open(fuse: Fuse, log: &mut [u8], charts: &[u8], ram: Ram) -> Outcome
+    requires { (length log.old ≡ log_length) × (length charts.now ≡ charts_length) }
+    ensures { let a = left ram.exit in
+        OpenOutcome (checked_by fuse log.old charts.now (scanned log.old no_index))
+        result log.new charts.now a.copy a.tail a.visits a.scopes }
 {
+    let Ram {
+        copy,
+        tail,
+        visits,
+        scopes,
+    } = ram;
     let s = scan_log(log, visits, scopes);
     open_scanned(fuse, s, log, charts, copy, tail, visits, scopes)
 }

@@ -7,17 +7,16 @@ ghost use Rattle.book.specs.Limits.{row_length, page_limit, page_length, places,
 ghost use Rattle.rows.specs.Meaning.{effect_meant};
 ghost use Rattle.recovery_model.specs.Scan.{row_in};
 ghost use Rattle.recovery_model.specs.Checking.{Rows};
-ghost use Rattle.recovery_model.specs.Charts.{is_page_by, bad_page_by, redo_from, redo_page, redo_charts, named_pages, Ends};
+ghost use Rattle.recovery_model.specs.Charts.{is_page_by, below, bad_page_by, redo_from, redo_page, redo_charts, named_pages, Ends};
 ghost use Rattle.recovery_model.specs.Forward.{page_with};
 
+use crate::look::row_bytes;
 use charts::check::page_ok;
 use charts::page::{move_place, read_mark};
 use rows::effects::effect_of;
 use rows::limits::{PAGE_LENGTH, PAGE_LIMIT, PLACES, ROW_LENGTH};
-use rows::numbers::index;
 use rows::reader::row_in;
 use rows::{Cell, Effect, Lsn};
-use std::num::wrapping_sub_u8;
 use wal::look::row_of_part;
 
 // The cells of a page as a number of a cell's type.
@@ -32,7 +31,7 @@ const NAMED_PAGES: usize = 37;
 fn is_on_page(c: Cell, p: usize) -> bool
     ensures { result ≡ (c.0 / places == p) }
 {
-    index(c.0) / PLACES == p
+    usize::from(c.0) / PLACES == p
 }
 
 // The effect is on a cell of page p.
@@ -41,8 +40,7 @@ fn touches_page(effect: Effect, p: usize) -> bool
 {
     match effect {
         Effect::Nothing => false,
-        Effect::Adds(c, _) => is_on_page(c, p),
-        Effect::Subtracts(c, _) => is_on_page(c, p),
+        Effect::Adds(c, _) | Effect::Subtracts(c, _) => is_on_page(c, p),
     }
 }
 
@@ -54,11 +52,12 @@ fn mark_ok(log: &[u8], rows: usize, p: usize, mark: Lsn) -> bool
     if mark.0 == 0 {
         return true;
     }
-    let row = row_of_part(log, 0, rows, mark.0 as usize);
+    let row = row_of_part(log, 0, rows, usize::from(mark.0));
     touches_page(effect_of(row), p)
 }
 
 // Page p, by its bytes and the log.
+#[tactic(auto, unfolding(recovery_model::specs::Charts::is_page_by))]
 fn page_passes(log: &[u8], rows: usize, page: &[u8], p: usize) -> bool
     requires rows { Rows (length log.now) rows }
     requires page_len { length page.now ≡ page_length }
@@ -69,23 +68,20 @@ fn page_passes(log: &[u8], rows: usize, page: &[u8], p: usize) -> bool
     page_ok(page, allowed)
 }
 
-// The first page that fails, or 32.
-pub fn bad_page(log: &[u8], rows: usize, charts: &[u8]) -> usize
+// The first page that fails.
+pub fn bad_page(log: &[u8], rows: usize, charts: &[u8]) -> Option<usize>
     requires rows { Rows (length log.now) rows }
     requires charts_len { length charts.now ≡ charts_length }
-    ensures { result ≡ bad_page_by log.now rows charts.now }
+    ensures { result ≡ below page_limit (bad_page_by log.now rows charts.now) }
 {
-    let mut p: usize = 0;
-    while p < PAGE_LIMIT {
+    for p in 0..PAGE_LIMIT {
         let a = PAGE_LENGTH * p;
         let e = a + PAGE_LENGTH;
-        if page_passes(log, rows, &charts[a..e], p) {
-            p += 1;
-        } else {
-            return p;
+        if !page_passes(log, rows, &charts[a..e], p) {
+            return Some(p);
         }
     }
-    p
+    None
 }
 
 // ── The forward part ──────────────────────────────────────────────────────────────────────────────────────────────────
@@ -97,8 +93,8 @@ fn move_page(page: &mut [u8], effect: Effect, n: Lsn)
 {
     match effect {
         Effect::Nothing => {}
-        Effect::Adds(c, a) => move_place(page, index(c.0) % PLACES, a, false, n),
-        Effect::Subtracts(c, a) => move_place(page, index(c.0) % PLACES, a, true, n),
+        Effect::Adds(c, a) => move_place(page, usize::from(c.0) % PLACES, i32::from(a), n),
+        Effect::Subtracts(c, a) => move_place(page, usize::from(c.0) % PLACES, -i32::from(a), n),
     }
 }
 
@@ -108,8 +104,7 @@ fn redo_row(b: &[u8], page: &mut [u8], n: Lsn)
     requires page_len { length page.old ≡ page_length }
     ensures { page.new ≡ page_with (effect (row_of b.now)) n.0 page.old }
 {
-    let row = row_in(b);
-    move_page(page, effect_of(row), n);
+    move_page(page, effect_of(row_in(b)), n);
 }
 
 // The rows from place `from` on, up to row `rows`, applied to page p. Most rows are of other pages: one comparison of the cell rules them out.
@@ -120,18 +115,15 @@ fn redo_rows(log: &[u8], from: usize, rows: usize, page: &mut [u8], p: usize)
     ensures { page.new ≡ redo_from (rows - from) from log.now p page.old }
 {
     let lowest = (PLACES * p) as u8;
-    let mut k = from;
-    while k < rows {
-        let a = ROW_LENGTH * k;
-        if wrapping_sub_u8(log[a + 3], lowest) < CELLS_OF_PAGE {
-            let e = a + ROW_LENGTH;
-            redo_row(&log[a..e], page, Lsn((k + 1) as u16));
+    for k in from..rows {
+        if log[ROW_LENGTH * k + 3].wrapping_sub(lowest) < CELLS_OF_PAGE {
+            redo_row(row_bytes(log, k), page, Lsn((k + 1) as u16));
         }
-        k += 1;
     }
 }
 
 // The rows above the page's mark: the forward part of an opening for one page, from that page's bytes alone.
+#[tactic(auto, unfolding(recovery_model::specs::Charts::redo_page))]
 pub(crate) fn redo_page(log: &[u8], rows: usize, page: &mut [u8], p: usize)
     requires rows { Rows (length log.now) rows }
     requires page_len { length page.old ≡ page_length }
@@ -139,7 +131,7 @@ pub(crate) fn redo_page(log: &[u8], rows: usize, page: &mut [u8], p: usize)
     ensures { page.new ≡ redo_page log.now rows p page.old }
 {
     let mark = read_mark(page);
-    redo_rows(log, mark.0 as usize, rows, page, p);
+    redo_rows(log, usize::from(mark.0), rows, page, p);
 }
 
 // For each page the number of rows up to the last one whose cell byte names it, whatever its kind; 0 where none does.
@@ -148,11 +140,9 @@ fn note_ends(log: &[u8], rows: usize, ends: &mut [u16])
     requires ends_value { ends.old ≡ replicate named_pages 0 }
     ensures { Ends log.now rows ends.new }
 {
-    let mut k: usize = 0;
-    while k < rows {
-        let p = index(log[ROW_LENGTH * k + 3]) / PLACES;
+    for k in 0..rows {
+        let p = usize::from(log[ROW_LENGTH * k + 3]) / PLACES;
         ends[p] = (k + 1) as u16;
-        k += 1;
     }
 }
 
@@ -164,11 +154,9 @@ pub fn redo(log: &[u8], rows: usize, copy: &mut [u8])
 {
     let mut ends = [0u16; NAMED_PAGES];
     note_ends(log, rows, &mut ends);
-    let mut p: usize = 0;
-    while p < PAGE_LIMIT {
+    for p in 0..PAGE_LIMIT {
         let a = PAGE_LENGTH * p;
         let e = a + PAGE_LENGTH;
-        redo_page(log, ends[p] as usize, &mut copy[a..e], p);
-        p += 1;
+        redo_page(log, usize::from(ends[p]), &mut copy[a..e], p);
     }
 }

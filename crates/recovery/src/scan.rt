@@ -9,16 +9,14 @@ ghost use Rattle.recovery_model.specs.Scan.{row_in, ruled, judge_row, scan_from,
 ghost use Rattle.recovery_model.specs.Checking.{Next, judgement, found};
 ghost use Rattle.recovery_model.specs.Openings.{no_index};
 
-use crate::look::{before_undone, named_by};
-use recovery_model::{Judged, JudgedRow, LogScan, Reason};
-use rows::limits::{ROW_LENGTH, ROW_LIMIT};
+use crate::look::{before_undone, named_by, row_bytes};
+use recovery_model::{BadRow, LogScan, Reason};
+use rows::limits::ROW_LIMIT;
 use rows::reader::{is_blank, read_row};
 use rows::{Lsn, Read, Row};
-use tables::entries::clear;
 use tables::rules::judge;
 use tables::steps::step;
-use tables::visits::no_counts;
-use tables_model::{Counts, Verdict};
+use tables_model::Counts;
 
 // A row that the rules allow is applied to the tables.
 fn take_row(
@@ -28,59 +26,39 @@ fn take_row(
     visits: &mut [u16],
     scopes: &mut [u16],
     row: Row,
-) -> JudgedRow
+) -> Result<Option<Counts>, Reason>
     requires next { Next (length log.now) k }
     requires ready { Ready t (length visits.old) (length scopes.old) }
-    ensures { judgement result visits.new scopes.new
+    ensures { judgement t result visits.new scopes.new
         ≡ ruled log.now k (index t visits.old scopes.old) (meant row)
         (judge_by (index t visits.old scopes.old) k (row_in log.now k (undone_by (meant row))) (meant row)) }
 {
     let named = named_by(log, k, row);
-    let verdict = judge(t, visits, scopes, k, row, named);
-    match verdict {
-        Verdict::Allowed => {
-            let before = before_undone(log, k, t, scopes, row);
-            let next = step(t, visits, scopes, Lsn((k + 1) as u16), row, before);
-            JudgedRow {
-                judged: Judged::Taken,
-                counts: next,
-            }
-        }
-        Verdict::Unlawful => JudgedRow {
-            judged: Judged::Bad(Reason::Rule),
-            counts: t,
-        },
-        Verdict::OverLimit => JudgedRow {
-            judged: Judged::Bad(Reason::Limit),
-            counts: t,
-        },
-    }
+    judge(t, visits, scopes, k, row, named)?;
+    let n = Lsn((k + 1) as u16);
+    let before = before_undone(log, k, t, scopes, row);
+    Ok(Some(step(t, visits, scopes, n, row, before.unwrap_or_default())))
 }
 
-// Row k + 1, after k rows.
-fn judge_row(log: &[u8], k: usize, t: Counts, visits: &mut [u16], scopes: &mut [u16]) -> JudgedRow
+// Row k + 1, after k rows: the counters of the tables after it, none where the log ends before it, or why it is not allowed.
+#[tactic(auto, unfolding(recovery_model::specs::Scan::judge_row))]
+fn judge_row(
+    log: &[u8],
+    k: usize,
+    t: Counts,
+    visits: &mut [u16],
+    scopes: &mut [u16],
+) -> Result<Option<Counts>, Reason>
     requires next { Next (length log.now) k }
     requires ready { Ready t (length visits.old) (length scopes.old) }
-    ensures { judgement result visits.new scopes.new
+    ensures { judgement t result visits.new scopes.new
         ≡ judge_row log.now k (index t visits.old scopes.old) }
 {
-    let a = ROW_LENGTH * k;
-    let e = a + ROW_LENGTH;
-    let read = read_row(&log[a..e], Lsn((k + 1) as u16));
-    match read {
+    match read_row(row_bytes(log, k), Lsn((k + 1) as u16)) {
         Read::Valid(row) => take_row(log, k, t, visits, scopes, row),
-        Read::Blank => JudgedRow {
-            judged: Judged::Ends,
-            counts: t,
-        },
-        Read::Malformed => JudgedRow {
-            judged: Judged::Bad(Reason::Bytes),
-            counts: t,
-        },
-        Read::OutOfRange => JudgedRow {
-            judged: Judged::Bad(Reason::Rule),
-            counts: t,
-        },
+        Read::Blank => Ok(None),
+        Read::Malformed => Err(Reason::Bytes),
+        Read::OutOfRange => Err(Reason::Rule),
     }
 }
 
@@ -91,59 +69,47 @@ fn scan_rows(log: &[u8], first: Counts, visits: &mut [u16], scopes: &mut [u16]) 
     ensures { found result visits.new scopes.new
         ≡ scan_from row_limit 0 log.now (index first visits.old scopes.old) }
 {
-    let mut t = first;
-    let mut k: usize = 0;
-    while k < ROW_LIMIT {
-        let r = judge_row(log, k, t, visits, scopes);
-        let judged = r.judged;
-        let next = r.counts;
-        match judged {
-            Judged::Taken => {
-                t = next;
-                k += 1;
-            }
-            Judged::Ends => {
+    let mut counts = first;
+    for k in 0..ROW_LIMIT {
+        match judge_row(log, k, counts, visits, scopes) {
+            Ok(Some(next)) => counts = next,
+            Ok(None) => {
                 return LogScan {
                     rows: k,
-                    bad: 0,
-                    reason: Reason::Bytes,
-                    counts: next,
+                    counts,
+                    bad: None,
                 };
             }
-            Judged::Bad(reason) => {
+            Err(reason) => {
+                let row = Lsn((k + 1) as u16);
                 return LogScan {
                     rows: k,
-                    bad: k + 1,
-                    reason: reason,
-                    counts: next,
+                    counts,
+                    bad: Some(BadRow { row, reason }),
                 };
             }
         }
     }
     LogScan {
-        rows: k,
-        bad: 0,
-        reason: Reason::Bytes,
-        counts: t,
+        rows: ROW_LIMIT,
+        counts,
+        bad: None,
     }
 }
 
-// The first row from place k on that is not blank, counted from 1; 0 for none.
-fn first_set(log: &[u8], k: usize) -> usize
+// The first row from place k on that is not blank.
+fn first_set(log: &[u8], k: usize) -> Option<BadRow>
     requires { length log.now ≡ log_length }
     ensures { result ≡ first_set (row_limit - k) k log.now }
 {
-    let mut i = k;
-    while i < ROW_LIMIT {
-        let a = ROW_LENGTH * i;
-        let e = a + ROW_LENGTH;
-        if is_blank(&log[a..e]) {
-            i += 1;
-        } else {
-            return i + 1;
+    for i in k..ROW_LIMIT {
+        if !is_blank(row_bytes(log, i)) {
+            let row = Lsn((i + 1) as u16);
+            let reason = Reason::Bytes;
+            return Some(BadRow { row, reason });
         }
     }
-    0
+    None
 }
 
 // The whole log: all rows, then zero bytes to the end. Both tables are cleared first.
@@ -152,18 +118,14 @@ pub fn scan_log(log: &[u8], visits: &mut [u16], scopes: &mut [u16]) -> LogScan
     requires visits_len { (length visits.old ≡ visits_length) × (length scopes.old ≡ flat_length) }
     ensures { found result visits.new scopes.new ≡ scanned log.now no_index }
 {
-    clear(visits);
-    clear(scopes);
-    let s = scan_rows(log, no_counts(), visits, scopes);
-    if s.bad == 0 {
-        let bad = first_set(log, s.rows);
-        let t = s.counts;
-        return LogScan {
-            rows: s.rows,
-            bad: bad,
-            reason: Reason::Bytes,
-            counts: t,
-        };
+    visits.fill(0);
+    scopes.fill(0);
+    let s = scan_rows(log, Counts::default(), visits, scopes);
+    match s.bad {
+        Some(_) => s,
+        None => LogScan {
+            bad: first_set(log, s.rows),
+            ..s
+        },
     }
-    s
 }

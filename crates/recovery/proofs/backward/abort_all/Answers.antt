@@ -15,12 +15,9 @@ loop-n-preserved c =
     let l = c.loop-n in
     let vs = actives c.args.visits.now in
     let m = ram l.d l.log l.tail l.copy in
-    let e = w.ensures ∙ ap (λ (a : Active). written m (Row.abort a.visit.0)) c.active_at-a.ensures in
-    let n = rw (← e) at (counters-written m (Row.abort (get_or vs (l.n - 1) vacant).visit.0) (counters l.invariant.1)) in (
-      omega arith,
-      fits-again l.invariant.1 n w.auto.log w.auto.tail w.auto.copy,
-      rw e (l.invariant.2 ∙ abort-turn vs m l.n c.loop-n-test.true),
-    )
+    let e = w.ensures ∙ ap (λ (a : Active). written m (Row.abort a.visit.0)) c.active_at.ensures in
+    let n = rw (← e) at (counters-written m (Row.abort (get_or vs (l.n - 1) vacant).visit.0) (counters l.invariant.0)) in
+    (fits-again l.invariant.0 n w.auto.log w.auto.tail w.auto.copy, rw e (l.invariant.1 ∙ abort-turn vs m l.n c.loop-n-test.true))
 
 pub returns : goal.returns
-returns c = let l = c.loop-n in sym (l.invariant.2 ∙ abort-end _ _ l.n (omega arith))
+returns c = let l = c.loop-n in sym (l.invariant.1 ∙ abort-end _ _ l.n (omega arith))

@@ -10,11 +10,11 @@ loop-p-preserved c =
     let r = c.build_page in
     let e : 32 * l.p + 32 - 32 * l.p ≡ 32 = omega arith in
     let f : 7 * l.p + 7 - 7 * l.p ≡ 7 = omega arith in
-    let k = laid-length _ _ _ _ l.invariant.1 (omega arith) in
-    (omega arith, rw e (laid_next _ _ _ _ l.invariant.1 _ (r.ensures ∙ rw f) (r.auto.p ∙ simp (length-take, length-drop) (omega arith))))
+    let k = laid-length _ _ _ _ l.invariant (omega arith) in
+    rw e (laid_next _ _ _ _ l.invariant _ (r.ensures ∙ rw f) (r.auto.p ∙ simp (length-take, length-drop) (omega arith)))
 
 pub returns : goal.returns
 returns c =
     let l = c.loop-p in
     let e : l.p ≡ 32 = omega arith in
-    laid-all _ 32 _ _ (rw e at l.invariant.1) c.requires.charts_len ∙ charts-same c.args.cells.now
+    laid-all _ 32 _ _ (rw e at l.invariant) c.requires.charts_len ∙ charts-same c.args.cells.now

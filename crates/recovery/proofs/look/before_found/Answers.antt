@@ -4,7 +4,7 @@ use Rattle.tables_model.specs.Entries.{scope_in}
 use Rattle.recovery.proofs.LookUps.{before-in-log}
 use Rattle.recovery.proofs.look.before_found.Goals as goal
 
-pub returns-in-At : goal.returns-in-At
-returns-in-At c =
-    rw (c.in-At.is, ← c.entry_at-s.ensures)
+pub returns : goal.returns
+returns c =
+    rw (c.in_ok-found.was, ← c.entry_at-s.ensures)
     (c.before_last_in.ensures.0 ∙ before-in-log c.args.log.now c.args.k (scope_in c.entry_at-s.result))

@@ -3,5 +3,5 @@ use Rattle.std.proofs.Common.{◌∙◌}
 use Rattle.recovery.proofs.LookUps.{row-of-log}
 use Rattle.recovery.proofs.look.named_by.Goals as goal
 
-pub returns : goal.returns
-returns c = c.row_of_part.ensures ∙ rw (c.undone_by-n.ensures, row-of-log)
+pub returns-in-Undo : goal.returns-in-Undo
+returns-in-Undo c = rw c.in-Undo.is (c.row_of_part.ensures ∙ rw (c.from.ensures, row-of-log))

@@ -1,18 +1,17 @@
 -- `recovery::open::open_scanned` meets its contract. Assumes nothing.
-use Rattle.std.proofs.Common.{arith, lt-ltb, eq-eqb, ne_eqb}
+use Rattle.std.proofs.Common.{arith, lt-ltb, sym}
 use Rattle.recovery.proofs.Settling.{opening-refused}
+use Rattle.recovery.proofs.Searches.{below-Some}
 use Rattle.recovery.proofs.open.open_scanned.Goals as goal
+use Rattle.recovery.proofs.open.open_scanned.Goals.{in-Some, in_default+in-Some-bad_page}
 
-pub returns-then-bad-ne0 : goal.returns-then-bad-ne0
-returns-then-bad-ne0 c =
-    let z = c.clear_ram.ensures in
-    let b = c.bad_row-answer.ensures in
-    let none = c.no_writes-nothing.ensures in
-    opening-refused _ _ _ _ _ _ _ _ (rw z.0 b.1) z.2 (rw (z.1, none) (omega arith, omega arith)) (rw (z.0, z.1, none, b.0, ne_eqb _ _ c.if-bad-ne0.true))
-
-pub returns-then-p-lt-PAGE_LIMIT : goal.returns-then-p-lt-PAGE_LIMIT
-returns-then-p-lt-PAGE_LIMIT c =
-    let z = c.clear_ram-then-p-lt-PAGE_LIMIT.ensures in
-    let none = c.no_writes-nothing.ensures in
-    opening-refused _ _ _ _ _ _ _ _ (rw z.0) z.2 (rw (z.1, none) (omega arith, omega arith))
-    (rw (z.0, z.1, none, eq-eqb _ _ c.if-bad-ne0.false, ← c.bad_page-p.ensures, lt-ltb _ _ c.if-p-lt-PAGE_LIMIT.true))
+pub returns : goal.returns
+returns c =
+    let z = c.clear.ensures in
+    let none = c.default.ensures in
+    opening-refused _ _ _ _ _ _ _ _ (rw z.0) z.2 (rw z.1 (omega arith, omega arith)) (rw (z.0, z.1, none.0, none.1)
+    (elim c.match-s.branch [
+      | in-Some w ↦ rw (w.in-Some.is, w.refusal-is, w.refusal_of-refusal.ensures)
+      | in_default+in-Some-bad_page w ↦ let k = below-Some 32 _ w.in-Some-bad_page.p (sym w.in-Some-bad_page.ensures) in
+          rw (w.in_default.is, w.refusal-is, lt-ltb _ _ k.0, k.1)
+    ]))

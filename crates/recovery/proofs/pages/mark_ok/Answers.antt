@@ -13,4 +13,4 @@ pub returns : goal.returns
 returns c =
     let a = c.args in
     rw (ne_eqb _ _ c.if-mark-eq0.false)
-    (c.touches_page.ensures ∙ rw (c.effect_of.ensures, c.row_of_part-row.ensures, row-of-log a.log.now a.rows a.mark.0) (ap (touches a.p) (effect-coded (row_in a.log.now a.rows a.mark.0))))
+    (c.touches_page.ensures ∙ rw (c.effect_of.ensures, c.row_of_part-row.ensures, c.from.ensures, row-of-log a.log.now a.rows a.mark.0) (ap (touches a.p) (effect-coded (row_in a.log.now a.rows a.mark.0))))

@@ -1,10 +1,7 @@
 -- `recovery::pages::note_ends` meets its contract. The loop's invariant: of the pages that the first `k` rows name the last such row is noted. Assumes nothing.
-use Rattle.std.proofs.Common.{◌≡◌, ◌-◌, ◌≤◌, length}
+use Rattle.std.proofs.Common.{◌≡◌, length}
 use Rattle.recovery_model.specs.Charts.{named_pages, Ends}
 use Rattle.recovery.proofs.pages.note_ends.Given as goal
 
 abbrev pub invariant-loop-k : goal.invariant-loop-k
-invariant-loop-k l = (l.k ≤ l.rows) × (length l.ends ≡ named_pages) × Ends l.log l.k l.ends
-
-abbrev pub decreases-loop-k : goal.decreases-loop-k
-decreases-loop-k l = l.rows - l.k
+invariant-loop-k l = (length l.ends ≡ named_pages) × Ends l.log l.k l.ends

@@ -5,6 +5,3 @@ use Rattle.recovery.proofs.pages.redo_rows.Given as goal
 
 abbrev pub invariant-loop-k : goal.invariant-loop-k
 invariant-loop-k l = (length l.page ≡ length l.initial.page) × (redo_from (l.rows - l.from) l.from l.log l.p l.initial.page ≡ redo_from (l.rows - l.k) l.k l.log l.p l.page)
-
-abbrev pub decreases-loop-k : goal.decreases-loop-k
-decreases-loop-k l = l.rows - l.k

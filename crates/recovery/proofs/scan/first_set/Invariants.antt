@@ -5,6 +5,3 @@ use Rattle.recovery.proofs.scan.first_set.Given as goal
 
 abbrev pub invariant-loop-i : goal.invariant-loop-i
 invariant-loop-i l = first_set (4096 - l.k) l.k l.log ≡ first_set (4096 - l.i) l.i l.log
-
-abbrev pub decreases-loop-i : goal.decreases-loop-i
-decreases-loop-i l = 4096 - l.i

@@ -1,0 +1,35 @@
+-- What a search that may find nothing gives, by the number that stands for it where nothing is found: the limit. Assumes nothing.
+use Rattle.std.proofs.Common.{◌≡◌, ℕ, ◌+◌, ◌≤◌, ◌<◌, Bool, true, false, cond, not, Some, None, List, length, get_or, position, ltb, refl, ap, sym, ◌∙◌, zero-add, ltb-true, ltb-false}
+use Rattle.std.specs.List.{position_or_len}
+use Rattle.std.proofs.lemmas.Bool.{not-true, not-false}
+use Rattle.std.proofs.lemmas.List.Sums.{prefix_len-le-length, fails_before_first, passes_at_first}
+use Rattle.book.specs.Lists.{first_failing}
+use Rattle.recovery_model.specs.Charts.{below}
+use Rattle.recovery_model.proofs.PageAlone.{first-is}
+
+-- it found the number
+pub below-Some : (limit n i : ℕ) → below limit n ≡ Some i → (n < limit) × (n ≡ i)
+below-Some limit n i = go (ltb n limit) refl
+  where
+    go : (t : Bool) → ltb n limit ≡ t → cond t (Some n) None ≡ Some i → (n < limit) × (n ≡ i)
+    go true e f = (ltb-true n limit e, cc)
+    go false e f = cc
+
+-- it found nothing
+pub below-None : (limit n : ℕ) → below limit n ≡ None → limit ≤ n
+below-None limit n = go (ltb n limit) refl
+  where
+    go : (t : Bool) → ltb n limit ≡ t → cond t (Some n) None ≡ None → limit ≤ n
+    go true e f = cc
+    go false e f = ltb-false n limit e
+
+-- the place of the first of a list that fails a test
+pub first-position : {A : Type 0} (test : A → Bool) (d : A) (limit : ℕ) (xs : List A) → length xs ≡ limit
+    → position (λ x. not (test x)) xs ≡ below limit (first_failing limit 0 (λ i. test (get_or xs i d)))
+first-position test d limit xs h =
+    let n = position_or_len (λ x. not (test x)) xs in
+    let first : first_failing (length xs) 0 (λ i. test (get_or xs i d)) ≡ 0 + n =
+    first-is (length xs) 0 n (λ i. test (get_or xs i d)) (prefix_len-le-length _ xs)
+    (λ i l. rw (zero-add i) (not-false _ (fails_before_first (λ x. not (test x)) xs i d l)))
+    (λ l. rw (zero-add n) (not-true _ (passes_at_first (λ x. not (test x)) xs d l))) in
+    rw (← h) (ap (below (length xs)) (sym (first ∙ zero-add n)))
