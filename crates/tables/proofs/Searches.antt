@@ -1,11 +1,15 @@
 -- Turns of the loops over the scope table, and that what its searches find is an entry in use. Assumes nothing.
-use Rattle.std.proofs.Common.{◌≡◌, ℕ, suc, ◌+◌, ◌<◌, ◌≤◌, Bool, true, false, cond, ◌&&◌, ltb, List, [], ◌∷◌, length, get_or, take, refl, add-one, arith, length-take, le-ltb, Option, Some, None}
+use Rattle.std.proofs.Common.{◌≡◌, ℕ, suc, ◌+◌, ◌<◌, ◌≤◌, Bool, true, false, cond, ◌&&◌, eqb, ltb, List, [], ◌∷◌, length, get_or, take, refl, add-one, arith, length-take, le-ltb, Option, Some, None}
 use Rattle.book.specs.Scopes.{Scope, unused}
 use Rattle.tables_model.specs.declared.Whom.{Whom}
 use Rattle.tables_model.specs.Layout.{entries}
 use Rattle.tables_model.specs.Table.{find_from, find, covers, highest_from, highest, last_by, count_all}
 use Rattle.tables.proofs.Loops.{left, left-next}
 use Rattle.tables.proofs.Flat.{entries-length}
+
+-- the highest open change so far is `last`, that of entry i; none where it is 0
+abbrev pub found_at : ℕ → ℕ → Option ℕ
+found_at last i = cond (eqb last 0) None (Some i)
 
 -- a turn of the sum of the counts
 pub count_next : (t : List ℕ) (used i : ℕ) → i < used → used ≤ 64

@@ -61,22 +61,23 @@ fn last_by(t: &[u16], i: usize, w: Whom) -> u16
     }
 }
 
-// The entry with the highest open change of these visits.
+// The entry with the highest open change of these visits. The loop keeps the change and the entry as two numbers, none as a change of 0: an Option in their
+// place took a third more instructions.
 #[tactic(auto, unfolding(tables_model::specs::Table::highest), using(crate::proofs::Loops::left_end))]
 pub fn highest(t: &[u16], used: usize, w: Whom) -> Option<usize>
     requires { Sized (length t.now) used }
     ensures { result ≡ highest_in w used (entries_of t.now) }
 {
     let mut last = 0;
-    let mut found = None;
+    let mut found = 0;
     for i in 0..used as u32 {
         let x = last_by(t, i as usize, w);
         if last < x {
             last = x;
-            found = Some(i as usize);
+            found = i;
         }
     }
-    found
+    (last > 0).then_some(found as usize)
 }
 
 // The highest open change of the entry found, 0 for none.
