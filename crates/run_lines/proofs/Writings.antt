@@ -49,5 +49,6 @@ puts_after {o} {p} {q} {xs} {ys} v w =
     record {
       written = written_after o.bytes.now o.at xs ys (omega arith) v.written w.written;
       within = h;
+      same = w.same ∙ v.same;
       kept = l ∙ k;
     }

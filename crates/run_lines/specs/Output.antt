@@ -27,8 +27,9 @@ pub record Written (out : List ℕ) (at : ℕ) (text : List ℕ) (end : ℕ) (af
 abbrev pub Room : Output → ℕ → Type 0
 Room o n = o.at + n ≤ length o.bytes.now
 
--- the text was written at the place of the next byte, which then lies after it
+-- the text was written at the place of the next byte, which then lies after it; the buffer is the one that was lent, and as long as it was
 pub record Puts (before : Output) (text : List ℕ) (after : Output) : Type 0 where
   pub written : Written before.bytes.now before.at text after.at after.bytes.now
   pub within : after.at ≤ length after.bytes.now
+  pub same : after.bytes.ghost_name ≡ before.bytes.ghost_name
   pub kept : length after.bytes.now ≡ length before.bytes.now
