@@ -1,6 +1,8 @@
 -- The checks of a call in their order, by what the functions have found. Assumes nothing.
 use Prim.Native.Nat.{ℕ, zero, suc, ◌+◌, ◌≤◌}
-use mathlib.Core.Path.{◌≡◌, refl}
+use mathlib.Core.Path.{◌≡◌, refl, ap, sym, ◌∙◌}
+use mathlib.Core.Logic.{◌≢◌}
+use Rattle.std.specs.Prelude.{Ok}
 use mathlib.Core.Bool.{Bool, true, false, not, ◌&&◌}
 use mathlib.Core.List.{List}
 use lib.Dec.{leb}
@@ -17,6 +19,9 @@ use Rattle.tables_model.specs.declared.Tables.{Tables}
 use Rattle.tables_model.specs.Visits.{InRange, tables_in}
 use Rattle.state.specs.declared.ram.Phase.{Phase}
 use Rattle.state.specs.declared.ram.Phase.TheVariants.{Open}
+use Rattle.state.specs.declared.answers.Refusal.{Refusal}
+use Rattle.state.specs.declared.answers.Refusal.TheVariants.{WrongLength, CellOutOfRange, WrongBytes, BreaksRule, OverLimit, BadPage, Closed, VisitsUsedUp, TooManyActive, NoRoom, NotActive, NoSuchCell, ScopesUsedUp, SameVisit, HoldsNone, NoSuchPage}
+use Rattle.state.specs.Answers.{checked, refusal_answer}
 use Rattle.state.specs.World.{World, is_open_phase}
 use Rattle.state.specs.CallContracts.{Answered}
 use Rattle.journal.specs.declared.Control.{Control}
@@ -94,3 +99,29 @@ passed c t vs scopes k e =
 pub when-refused : (w : World) (k : Call) (a : Answer) (n : ℕ) → a ≡ refused_by n → (n ≡ 0 → ⊥) → ◌≡◌ {A = Answered} (record { answer = a; world = w; writes = no_writes }) (decided w k n)
 when-refused w k a zero e h = absurd (h refl)
 when-refused w k a (suc n) e h = rw e
+
+-- a refusal has a number
+numbered : (r : Refusal) → (refusal_answer r).number ≢ 0
+numbered WrongLength z = absurd (omega arith)
+numbered (CellOutOfRange c) z = absurd (omega arith)
+numbered (WrongBytes n) z = absurd (omega arith)
+numbered (BreaksRule n) z = absurd (omega arith)
+numbered (OverLimit n) z = absurd (omega arith)
+numbered (BadPage p) z = absurd (omega arith)
+numbered Closed z = absurd (omega arith)
+numbered VisitsUsedUp z = absurd (omega arith)
+numbered TooManyActive z = absurd (omega arith)
+numbered NoRoom z = absurd (omega arith)
+numbered NotActive z = absurd (omega arith)
+numbered NoSuchCell z = absurd (omega arith)
+numbered ScopesUsedUp z = absurd (omega arith)
+numbered SameVisit z = absurd (omega arith)
+numbered HoldsNone z = absurd (omega arith)
+numbered NoSuchPage z = absurd (omega arith)
+
+pub refuses : (r : Refusal) (n : ℕ) → refusal_answer r ≡ refused_by n → n ≢ 0
+refuses r n e z = numbered r (ap (λ (a : Answer). a.number) e ∙ z)
+
+-- and no check of a call that may go on has one
+pub passes-all : (u : Unit {0}) (n : ℕ) → checked (Ok u) ≡ refused_by n → n ≡ 0
+passes-all u n e = sym (ap (λ (a : Answer). a.number) e)

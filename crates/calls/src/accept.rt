@@ -1,263 +1,115 @@
 // A call that no check refuses, in place: log, charts, copy, tail and the flat tables become what the call leaves.
-ghost use Rattle.std.specs.Prelude.{◌≡◌, ◌⊎◌, List, ℕ, ◌+◌, ◌-◌, ◌≤◌, pos, length};
-ghost use Rattle.book.specs.Limits.{charts_length, row_limit};
-ghost use Rattle.book.specs.Calls.{Call};
-ghost use Rattle.tables_model.specs.Layout.{flat_length, visits_length};
-ghost use Rattle.state.specs.Answers.{row, number_and_value, case_of};
-ghost use Rattle.book.specs.Book.{done};
-ghost use Rattle.state.specs.World.{tail_length};
-ghost use Rattle.calls_model.specs.Acts.{core, Accepts};
-ghost use Rattle.calls_model.specs.Perform.{Accepted, Held, Failed};
+ghost use Rattle.std.specs.Prelude.{◌≡◌, ◌⊎◌, ◌+◌, ◌-◌, ◌≤◌, ◌<◌, length};
+ghost use Rattle.book.specs.Calls.{Call, ending, returns};
+ghost use Rattle.book.specs.Limits.{charts_length, row_limit, visit_limit};
+ghost use Rattle.book.specs.Writes.{pages_of};
+ghost use Rattle.state.specs.Answers.{done_value, done_with, done_case};
+ghost use Rattle.state.specs.Requests.{call_of};
+ghost use Rattle.wal.specs.Arrays.{left};
+ghost use Rattle.calls_model.specs.Acts.{core, value_from, Accepts};
+ghost use Rattle.calls_model.specs.Perform.{Accepted, Held, Failed, IfRead, Unchanged};
 
-use crate::act::{Acted, abort, begin, change, commit, flush, hand_over, hand_over_all};
+use crate::act::{Acted, act};
 use charts::charts::read_cell;
-use journal::force::force;
-use journal::landed::rows_between;
 use journal::{Control, Outcome};
-use rows::{Cell, Lsn, Visit};
-use state::answers::{Answer, Writes, no_writes};
+use rows::limits::{CHARTS_LENGTH, TAIL_LENGTH};
+use rows::{Lsn, Visit};
+use state::answers::{Done, Refusal, Writes};
 use state::ram::Phase;
+use state::requests::Request;
+use tables::layout::{FLAT_LENGTH, VISITS_LENGTH};
 use tables_model::Counts;
-use wal::clear::clear_ram;
+use wal::ram::Ram;
 
-// Where the power held the call gives this answer; where it failed RAM is cleared. `before` rows were stored before the call; `pages` is what it counts where the power held, since a page is its last write.
+// What a call gives that is done, of the visits begun before it, the rows after it and the copy.
+#[inline(always)]
+fn done_by(t: Counts, after: Control, copy: &[u8], request: Request) -> Done
+    requires { (after.stored + after.waiting ≤ row_limit) × (length copy.now ≡ charts_length) × (call_of request ≡ Call.begin → t.begun < visit_limit) }
+    ensures { (done_value result ≡ value_from t.begun (after.stored + after.waiting) copy.now (returns (call_of request)))
+        × (done_with result ≡ done_case (returns (call_of request))) }
+{
+    match request {
+        Request::Begin => Done::Visit(Visit(t.begun + 1)),
+        Request::Force | Request::Flush(_) => Done::Nothing,
+        Request::Read(k) => Done::Grams(read_cell(copy, k)),
+        _ => Done::Row(Lsn((after.stored + after.waiting) as u16)),
+    }
+}
+
+// The pages that a call stores where the power holds: that of a flush.
+#[inline(always)]
+fn pages_by(request: Request) -> usize
+    ensures { result ≡ pages_of (ending (call_of request)) 0 }
+{
+    match request {
+        Request::Flush(_) => 1,
+        _ => 0,
+    }
+}
+
+// Where the power held the call is done; where it failed RAM is cleared. `before` rows were stored before the call; `pages` is what it counts where the
+// power held, since a page is its last write.
 fn settle(
     before: usize,
     a: Acted,
-    answer: Answer,
+    done: Done,
     pages: usize,
-    copy: &mut [u8],
-    tail: &mut [u8],
-    visits: &mut [u16],
-    scopes: &mut [u16],
+    copy: &mut [u8; CHARTS_LENGTH],
+    tail: &mut [u8; TAIL_LENGTH],
+    visits: &mut [u16; VISITS_LENGTH],
+    scopes: &mut [u16; FLAT_LENGTH],
 ) -> Outcome
-    requires { (length copy.old ≡ charts_length) × (length tail.old ≡ tail_length) × (length visits.old ≡ visits_length) × (length scopes.old ≡ flat_length) }
-    ensures { Held a.control a.counts answer (a.control.stored - before) pages copy.old tail.old visits.old scopes.old result
+    ensures { Held a.control a.counts done (a.control.stored - before) pages copy.old tail.old visits.old scopes.old result
         copy.new tail.new visits.new scopes.new
         ⊎ Failed a.control (a.control.stored - before) result copy.new tail.new visits.new scopes.new }
 {
-    let c = a.control;
-    let rows = rows_between(before, c.stored);
-    let phase = c.phase;
-    match phase {
-        Phase::Closed => {
-            let writes = Writes {
-                rows: rows,
-                pages: 0,
-            };
-            return clear_ram(copy, tail, visits, scopes, Answer::Closed, writes);
-        }
-        Phase::Open => {}
+    let Acted { control, counts } = a;
+    let rows = control.stored.saturating_sub(before);
+    if control.phase == Phase::Closed {
+        let ram = Ram {
+            copy,
+            tail,
+            visits,
+            scopes,
+        };
+        return ram.clear(Err(Refusal::Closed), Writes { rows, pages: 0 });
     }
-    let t = a.counts;
-    let writes = Writes {
-        rows: rows,
-        pages: pages,
-    };
     Outcome {
-        answer: answer,
-        control: c,
-        counts: t,
-        writes: writes,
+        answer: Ok(done),
+        control,
+        counts,
+        writes: Writes { rows, pages },
     }
 }
 
-// The answer of a call that returns its row's number: that of the last row.
-fn row_answer(c: Control) -> Answer
-    requires { c.stored + c.waiting ≤ row_limit }
-    ensures { (number_and_value result ≡ done (pos (c.stored + c.waiting))) × (case_of result ≡ row) }
-{
-    Answer::Row(Lsn((c.stored + c.waiting) as u16))
-}
-
-pub fn accept_begin(
+// It is inlined, so that a caller with one kind of request has the work of that kind alone.
+#[inline(always)]
+pub fn accept(
     c: Control,
     t: Counts,
-    visits: &mut [u16],
-    log: &mut [u8],
-    copy: &mut [u8],
-    tail: &mut [u8],
-    scopes: &mut [u16],
-) -> Outcome
-    requires { Accepts c t (length log.old) (length copy.old) (length tail.old) visits.old scopes.old Call.begin }
-    ensures { (charts : List ℕ) → Accepted (core c t visits.old log.old charts copy.old tail.old scopes.old) Call.begin result
-        log.new charts copy.new tail.new visits.new scopes.new }
-{
-    let v = Visit(t.begun + 1);
-    let a = begin(c, t, visits, log, copy, tail, scopes);
-    settle(c.stored, a, Answer::Visit(v), 0, copy, tail, visits, scopes)
-}
-
-pub fn accept_change(
-    c: Control,
-    t: Counts,
-    visits: &mut [u16],
-    log: &mut [u8],
-    copy: &mut [u8],
-    tail: &mut [u8],
-    scopes: &mut [u16],
-    v: Visit,
-    k: Cell,
-    z: i16,
-) -> Outcome
-    requires { Accepts c t (length log.old) (length copy.old) (length tail.old) visits.old scopes.old (Call.change v.0 k.0 z) }
-    ensures { (charts : List ℕ) → Accepted (core c t visits.old log.old charts copy.old tail.old scopes.old) (Call.change v.0 k.0 z) result
-        log.new charts copy.new tail.new visits.new scopes.new }
-{
-    let a = change(c, t, visits, log, copy, tail, scopes, v, k, z);
-    let d = a.control;
-    let answer = row_answer(d);
-    settle(c.stored, a, answer, 0, copy, tail, visits, scopes)
-}
-
-pub fn accept_hand_over(
-    c: Control,
-    t: Counts,
-    visits: &mut [u16],
-    log: &mut [u8],
-    copy: &mut [u8],
-    tail: &mut [u8],
-    scopes: &mut [u16],
-    g: Visit,
-    v: Visit,
-    k: Cell,
-) -> Outcome
-    requires { Accepts c t (length log.old) (length copy.old) (length tail.old) visits.old scopes.old (Call.hand_over g.0 v.0 k.0) }
-    ensures { (charts : List ℕ) → Accepted (core c t visits.old log.old charts copy.old tail.old scopes.old) (Call.hand_over g.0 v.0 k.0) result
-        log.new charts copy.new tail.new visits.new scopes.new }
-{
-    let a = hand_over(c, t, visits, log, copy, tail, scopes, g, v, k);
-    let d = a.control;
-    let answer = row_answer(d);
-    settle(c.stored, a, answer, 0, copy, tail, visits, scopes)
-}
-
-pub fn accept_hand_over_all(
-    c: Control,
-    t: Counts,
-    visits: &mut [u16],
-    log: &mut [u8],
-    copy: &mut [u8],
-    tail: &mut [u8],
-    scopes: &mut [u16],
-    g: Visit,
-    v: Visit,
-) -> Outcome
-    requires { Accepts c t (length log.old) (length copy.old) (length tail.old) visits.old scopes.old (Call.hand_over_all g.0 v.0) }
-    ensures { (charts : List ℕ) → Accepted (core c t visits.old log.old charts copy.old tail.old scopes.old) (Call.hand_over_all g.0 v.0) result
-        log.new charts copy.new tail.new visits.new scopes.new }
-{
-    let a = hand_over_all(c, t, visits, log, copy, tail, scopes, g, v);
-    let d = a.control;
-    let answer = row_answer(d);
-    settle(c.stored, a, answer, 0, copy, tail, visits, scopes)
-}
-
-pub fn accept_commit(
-    c: Control,
-    t: Counts,
-    visits: &mut [u16],
-    log: &mut [u8],
-    copy: &mut [u8],
-    tail: &mut [u8],
-    scopes: &mut [u16],
-    v: Visit,
-) -> Outcome
-    requires { Accepts c t (length log.old) (length copy.old) (length tail.old) visits.old scopes.old (Call.commit v.0) }
-    ensures { (charts : List ℕ) → Accepted (core c t visits.old log.old charts copy.old tail.old scopes.old) (Call.commit v.0) result
-        log.new charts copy.new tail.new visits.new scopes.new }
-{
-    let a = commit(c, t, visits, log, copy, tail, scopes, v);
-    let d = a.control;
-    let answer = row_answer(d);
-    settle(c.stored, a, answer, 0, copy, tail, visits, scopes)
-}
-
-pub fn accept_abort(
-    c: Control,
-    t: Counts,
-    visits: &mut [u16],
-    log: &mut [u8],
-    copy: &mut [u8],
-    tail: &mut [u8],
-    scopes: &mut [u16],
-    v: Visit,
-) -> Outcome
-    requires { Accepts c t (length log.old) (length copy.old) (length tail.old) visits.old scopes.old (Call.abort v.0) }
-    ensures { (charts : List ℕ) → Accepted (core c t visits.old log.old charts copy.old tail.old scopes.old) (Call.abort v.0) result
-        log.new charts copy.new tail.new visits.new scopes.new }
-{
-    let a = abort(c, t, visits, log, copy, tail, scopes, v);
-    let d = a.control;
-    let answer = row_answer(d);
-    settle(c.stored, a, answer, 0, copy, tail, visits, scopes)
-}
-
-pub fn accept_force(
-    c: Control,
-    t: Counts,
-    visits: &mut [u16],
-    log: &mut [u8],
-    copy: &mut [u8],
-    tail: &mut [u8],
-    scopes: &mut [u16],
-) -> Outcome
-    requires { Accepts c t (length log.old) (length copy.old) (length tail.old) visits.old scopes.old Call.force }
-    ensures { (charts : List ℕ) → Accepted (core c t visits.old log.old charts copy.old tail.old scopes.old) Call.force result
-        log.new charts copy.new tail.new visits.new scopes.new }
-{
-    let d = force(c, log, tail);
-    let a = Acted {
-        control: d,
-        counts: t,
-    };
-    settle(c.stored, a, Answer::Done, 0, copy, tail, visits, scopes)
-}
-
-pub fn accept_flush(
-    c: Control,
-    t: Counts,
-    visits: &mut [u16],
+    ram: Ram,
     log: &mut [u8],
     charts: &mut [u8],
-    copy: &mut [u8],
-    tail: &mut [u8],
-    scopes: &mut [u16],
-    page: u8,
+    request: Request,
 ) -> Outcome
-    requires { Accepts c t (length log.old) (length copy.old) (length tail.old) visits.old scopes.old (Call.flush page) × (length charts.old ≡ charts_length) }
-    ensures { Accepted (core c t visits.old log.old charts.old copy.old tail.old scopes.old) (Call.flush page) result
-        log.new charts.new copy.new tail.new visits.new scopes.new }
+    requires { Accepts c t (length log.old) (length ram.copy.now) (length ram.tail.now) ram.visits.now ram.scopes.now (call_of request)
+        × (length charts.old ≡ charts_length) }
+    ensures accepted { let r = left ram.exit in
+        Accepted (core c t ram.entry.visits.now log.old charts.old ram.entry.copy.now ram.entry.tail.now ram.entry.scopes.now) (call_of request) result
+        log.new charts.new r.copy r.tail r.visits r.scopes }
+    ensures read { let r = left ram.exit in
+        IfRead (call_of request) (Unchanged c t log.old charts.old ram.entry.copy.now ram.entry.tail.now ram.entry.visits.now ram.entry.scopes.now
+        result.control result.counts log.new charts.new r.copy r.tail r.visits r.scopes
+        × (result.writes ≡ record { rows = 0; pages = 0 })) }
 {
-    let d = flush(c, log, charts, copy, tail, page);
-    let a = Acted {
-        control: d,
-        counts: t,
-    };
-    settle(c.stored, a, Answer::Done, 1, copy, tail, visits, scopes)
-}
-
-// A read changes nothing.
-pub fn accept_read(
-    c: Control,
-    t: Counts,
-    visits: &[u16],
-    log: &[u8],
-    copy: &[u8],
-    tail: &[u8],
-    scopes: &[u16],
-    k: Cell,
-) -> Outcome
-    requires { Accepts c t (length log.now) (length copy.now) (length tail.now) visits.now scopes.now (Call.read k.0) }
-    ensures { ((charts : List ℕ) → Accepted (core c t visits.now log.now charts copy.now tail.now scopes.now) (Call.read k.0) result
-        log.now charts copy.now tail.now visits.now scopes.now)
-        × (result.control ≡ c) × (result.counts ≡ t) × (result.writes ≡ record { rows = 0; pages = 0 }) }
-{
-    let writes = no_writes();
-    Outcome {
-        answer: Answer::Grams(read_cell(copy, k)),
-        control: c,
-        counts: t,
-        writes: writes,
-    }
+    let Ram {
+        copy,
+        tail,
+        visits,
+        scopes,
+    } = ram;
+    let a = act(c, t, visits, log, charts, copy, tail, scopes, request);
+    let done = done_by(t, a.control, copy, request);
+    let pages = pages_by(request);
+    settle(c.stored, a, done, pages, copy, tail, visits, scopes)
 }

@@ -1,10 +1,17 @@
 // What an accepted call does: the rows that it adds, the tables after them, and its stored writes.
-ghost use Rattle.std.specs.Prelude.{◌≡◌, ℕ, ◌-◌, ◌≤◌, ◌<◌, cond, List, leb, length};
+ghost use Rattle.std.specs.Prelude.{◌≡◌, ℕ, ◌+◌, ◌-◌, ◌≤◌, ◌<◌, cond, List, leb, length};
 ghost use Rattle.book.specs.Calls.{Call};
-ghost use Rattle.book.specs.Limits.{page_limit, charts_length};
+ghost use Rattle.book.specs.Limits.{visit_limit, page_limit, charts_length};
+ghost use Rattle.rows.specs.Meaning.{meant};
 ghost use Rattle.tables_model.specs.declared.Counts.{Counts as TheCounts};
+ghost use Rattle.tables_model.specs.Entries.{Sized};
+ghost use Rattle.tables_model.specs.Rows.{Changes, Ready};
+ghost use Rattle.tables_model.specs.Table.{among};
+ghost use Rattle.tables_model.specs.Visits.{MayBegin};
+ghost use Rattle.state.specs.Requests.{call_of};
 ghost use Rattle.wal.specs.Writing.{Fits};
-ghost use Rattle.calls_model.specs.Acts.{core, acted, Accepts};
+ghost use Rattle.calls_model.specs.Acts.{core, acted, cells_handed, handed_row, Accepts};
+ghost use Rattle.calls_model.specs.Perform.{IfRead, Unchanged};
 
 use charts::charts::read_mark;
 use journal::Control;
@@ -13,47 +20,45 @@ use journal::pages::write_page;
 use journal::tail::append;
 use rows::limits::PAGE_LENGTH;
 use rows::{Cell, Lsn, Row, Visit};
+use state::requests::Request;
 use tables::steps::{after_change, after_end};
 use tables::visits::with_begun;
 use tables_model::{CellSet, Counts, Whom};
 use wal::take_back::take_back;
 use wal::write::write;
 
-// What an accepted call leaves besides the buffers.
+// What an accepted call leaves besides the arrays.
 #[derive(Clone, Copy)]
-pub struct Acted {
+pub(crate) struct Acted {
     pub control: Control,
     pub counts: Counts,
 }
 
 // A begin is forced: a number that was given is in the log.
-pub(crate) fn begin(
+fn begin(
     c: Control,
     t: Counts,
     visits: &mut [u16],
     log: &mut [u8],
     copy: &mut [u8],
     tail: &mut [u8],
-    scopes: &mut [u16],
 ) -> Acted
-    requires { Accepts c t (length log.old) (length copy.old) (length tail.old) visits.old scopes.old Call.begin }
-    ensures { (charts : List ℕ) → core result.control result.counts visits.new log.new charts copy.new tail.new scopes.new
-        ≡ acted (core c t visits.old log.old charts copy.old tail.old scopes.old) Call.begin }
+    requires { Fits c (length log.old) (length tail.old) (length copy.old) × MayBegin t visits.old (t.begun + 1) × (t.begun < visit_limit) }
+    ensures { (charts scopes : List ℕ) → core result.control result.counts visits.new log.new charts copy.new tail.new scopes
+        ≡ acted (core c t visits.old log.old charts copy.old tail.old scopes) Call.begin }
 {
     let v = Visit(t.begun + 1);
     let counts = with_begun(t, visits, v);
     let with_begin = write(c, log, tail, copy, Row::Begin(v));
-    let control = force(with_begin, log, tail);
     Acted {
-        control: control,
-        counts: counts,
+        control: force(with_begin, log, tail),
+        counts,
     }
 }
 
-pub(crate) fn change(
+fn change(
     c: Control,
     t: Counts,
-    visits: &mut [u16],
     log: &mut [u8],
     copy: &mut [u8],
     tail: &mut [u8],
@@ -62,69 +67,52 @@ pub(crate) fn change(
     k: Cell,
     a: i16,
 ) -> Acted
-    requires { Accepts c t (length log.old) (length copy.old) (length tail.old) visits.old scopes.old (Call.change v.0 k.0 a) }
-    ensures { (charts : List ℕ) → core result.control result.counts visits.new log.new charts copy.new tail.new scopes.new
-        ≡ acted (core c t visits.old log.old charts copy.old tail.old scopes.old) (Call.change v.0 k.0 a) }
+    requires { Fits c (length log.old) (length tail.old) (length copy.old) × Changes t scopes.old v.0 k.0 }
+    ensures { (charts visits : List ℕ) → core result.control result.counts visits log.new charts copy.new tail.new scopes.new
+        ≡ acted (core c t visits log.old charts copy.old tail.old scopes.old) (Call.change v.0 k.0 a) }
 {
     let n = Lsn((c.stored + c.waiting + 1) as u16);
     let counts = after_change(t, scopes, n, v, k);
-    let control = write(c, log, tail, copy, Row::Change(v, k, a));
     Acted {
-        control: control,
-        counts: counts,
-    }
-}
-
-pub(crate) fn hand_over(
-    c: Control,
-    t: Counts,
-    visits: &mut [u16],
-    log: &mut [u8],
-    copy: &mut [u8],
-    tail: &mut [u8],
-    scopes: &mut [u16],
-    g: Visit,
-    r: Visit,
-    k: Cell,
-) -> Acted
-    requires { Accepts c t (length log.old) (length copy.old) (length tail.old) visits.old scopes.old (Call.hand_over g.0 r.0 k.0) }
-    ensures { (charts : List ℕ) → core result.control result.counts visits.new log.new charts copy.new tail.new scopes.new
-        ≡ acted (core c t visits.old log.old charts copy.old tail.old scopes.old) (Call.hand_over g.0 r.0 k.0) }
-{
-    tables::updates::hand_over(scopes, t.used, g, r, CellSet::Only(k));
-    let control = write(c, log, tail, copy, Row::HandOver(g, r, k));
-    Acted {
-        control: control,
-        counts: t,
+        control: write(c, log, tail, copy, Row::Change(v, k, a)),
+        counts,
     }
 }
 
 // One row, whatever the number of cells.
-pub(crate) fn hand_over_all(
+fn hand_over_row(g: Visit, r: Visit, cells: CellSet) -> Row
+    ensures { meant result ≡ handed_row g.0 r.0 cells }
+{
+    match cells {
+        CellSet::Only(k) => Row::HandOver(g, r, k),
+        CellSet::Every => Row::HandOverAll(g, r),
+    }
+}
+
+fn hand_over(
     c: Control,
     t: Counts,
-    visits: &mut [u16],
     log: &mut [u8],
     copy: &mut [u8],
     tail: &mut [u8],
     scopes: &mut [u16],
     g: Visit,
     r: Visit,
+    cells: CellSet,
 ) -> Acted
-    requires { Accepts c t (length log.old) (length copy.old) (length tail.old) visits.old scopes.old (Call.hand_over_all g.0 r.0) }
-    ensures { (charts : List ℕ) → core result.control result.counts visits.new log.new charts copy.new tail.new scopes.new
-        ≡ acted (core c t visits.old log.old charts copy.old tail.old scopes.old) (Call.hand_over_all g.0 r.0) }
+    requires { Fits c (length log.old) (length tail.old) (length copy.old) × Sized (length scopes.old) t.used }
+    ensures { (charts visits : List ℕ) → core result.control result.counts visits log.new charts copy.new tail.new scopes.new
+        ≡ cells_handed (core c t visits log.old charts copy.old tail.old scopes.old) (handed_row g.0 r.0 cells) g.0 r.0 (among cells) }
 {
-    tables::updates::hand_over(scopes, t.used, g, r, CellSet::Every);
-    let control = write(c, log, tail, copy, Row::HandOverAll(g, r));
+    tables::updates::hand_over(scopes, t.used, g, r, cells);
     Acted {
-        control: control,
+        control: write(c, log, tail, copy, hand_over_row(g, r, cells)),
         counts: t,
     }
 }
 
 // A commit is forced.
-pub(crate) fn commit(
+fn commit(
     c: Control,
     t: Counts,
     visits: &mut [u16],
@@ -134,21 +122,20 @@ pub(crate) fn commit(
     scopes: &mut [u16],
     v: Visit,
 ) -> Acted
-    requires { Accepts c t (length log.old) (length copy.old) (length tail.old) visits.old scopes.old (Call.commit v.0) }
+    requires { Fits c (length log.old) (length tail.old) (length copy.old) × Ready t (length visits.old) (length scopes.old) }
     ensures { (charts : List ℕ) → core result.control result.counts visits.new log.new charts copy.new tail.new scopes.new
         ≡ acted (core c t visits.old log.old charts copy.old tail.old scopes.old) (Call.commit v.0) }
 {
     let counts = after_end(t, visits, scopes, v);
-    let with_row = write(c, log, tail, copy, Row::Commit(v));
-    let control = force(with_row, log, tail);
+    let with_commit = write(c, log, tail, copy, Row::Commit(v));
     Acted {
-        control: control,
-        counts: counts,
+        control: force(with_commit, log, tail),
+        counts,
     }
 }
 
 // The visit's open changes fall; at most as many as there are rows. The abort row changes no cell, so that it is appended and not applied.
-pub(crate) fn abort(
+fn abort(
     c: Control,
     t: Counts,
     visits: &mut [u16],
@@ -158,16 +145,15 @@ pub(crate) fn abort(
     scopes: &mut [u16],
     v: Visit,
 ) -> Acted
-    requires { Accepts c t (length log.old) (length copy.old) (length tail.old) visits.old scopes.old (Call.abort v.0) }
+    requires { Fits c (length log.old) (length tail.old) (length copy.old) × Ready t (length visits.old) (length scopes.old) }
     ensures { (charts : List ℕ) → core result.control result.counts visits.new log.new charts copy.new tail.new scopes.new
         ≡ acted (core c t visits.old log.old charts copy.old tail.old scopes.old) (Call.abort v.0) }
 {
     let d = take_back(c, log, tail, copy, scopes, t.used, Whom::One(v));
     let counts = after_end(t, visits, scopes, v);
-    let control = append(d, log, tail, Row::Abort(v));
     Acted {
-        control: control,
-        counts: counts,
+        control: append(d, log, tail, Row::Abort(v)),
+        counts,
     }
 }
 
@@ -175,18 +161,12 @@ pub(crate) fn abort(
 fn up_to_mark(c: Control, mark: Lsn) -> usize
     ensures { (result ≡ cond (leb (mark.0 - c.stored) c.waiting) (mark.0 - c.stored) 0) × (result ≤ c.waiting) }
 {
-    let n = mark.0 as usize;
-    if n <= c.stored {
-        return 0;
-    }
-    if n - c.stored <= c.waiting {
-        return n - c.stored;
-    }
-    0
+    let n = usize::from(mark.0).saturating_sub(c.stored);
+    if n <= c.waiting { n } else { 0 }
 }
 
 // The rows up to the page's mark are stored, then the page.
-pub(crate) fn flush(
+fn flush(
     c: Control,
     log: &mut [u8],
     charts: &mut [u8],
@@ -198,10 +178,54 @@ pub(crate) fn flush(
     ensures { (t : TheCounts) (visits scopes : List ℕ) → core result t visits log.new charts.new copy.now tail.new scopes
         ≡ acted (core c t visits log.old charts.old copy.now tail.old scopes) (Call.flush page) }
 {
-    let p = page as usize;
+    let p = usize::from(page);
     let m = up_to_mark(c, read_mark(copy, p));
     let d = force_up_to(c, log, tail, m);
-    let s = PAGE_LENGTH * p;
-    let e = s + PAGE_LENGTH;
-    write_page(d, charts, p, &copy[s..e])
+    let start = PAGE_LENGTH * p;
+    write_page(d, charts, p, &copy[start..start + PAGE_LENGTH])
+}
+
+// A read changes nothing.
+#[inline(always)]
+pub(crate) fn act(
+    c: Control,
+    t: Counts,
+    visits: &mut [u16],
+    log: &mut [u8],
+    charts: &mut [u8],
+    copy: &mut [u8],
+    tail: &mut [u8],
+    scopes: &mut [u16],
+    request: Request,
+) -> Acted
+    requires { Accepts c t (length log.old) (length copy.old) (length tail.old) visits.old scopes.old (call_of request) × (length charts.old ≡ charts_length) }
+    ensures done { core result.control result.counts visits.new log.new charts.new copy.new tail.new scopes.new
+        ≡ acted (core c t visits.old log.old charts.old copy.old tail.old scopes.old) (call_of request) }
+    ensures read { IfRead (call_of request) (Unchanged c t log.old charts.old copy.old tail.old visits.old scopes.old
+        result.control result.counts log.new charts.new copy.new tail.new visits.new scopes.new) }
+{
+    match request {
+        Request::Begin => begin(c, t, visits, log, copy, tail),
+        Request::Change(v, k, a) => change(c, t, log, copy, tail, scopes, v, k, a),
+        Request::HandOver(g, r, k) => {
+            hand_over(c, t, log, copy, tail, scopes, g, r, CellSet::Only(k))
+        }
+        Request::HandOverAll(g, r) => {
+            hand_over(c, t, log, copy, tail, scopes, g, r, CellSet::Every)
+        }
+        Request::Commit(v) => commit(c, t, visits, log, copy, tail, scopes, v),
+        Request::Abort(v) => abort(c, t, visits, log, copy, tail, scopes, v),
+        Request::Force => Acted {
+            control: force(c, log, tail),
+            counts: t,
+        },
+        Request::Flush(page) => Acted {
+            control: flush(c, log, charts, copy, tail, page),
+            counts: t,
+        },
+        Request::Read(_) => Acted {
+            control: c,
+            counts: t,
+        },
+    }
 }

@@ -1,10 +1,8 @@
-// The checks of a call but that of the lengths, in document 01's order, for whatever the arrays hold: what it is refused by, or `Done`. Nothing is changed.
-ghost use Rattle.std.specs.Prelude.{◌≡◌, ◌&&◌, List, ℕ, ℤ, length};
-ghost use Rattle.book.specs.Calls.{Call};
-ghost use Rattle.book.specs.Scopes.{Scope};
-ghost use Rattle.tables_model.specs.Layout.{flat_length, entries, visits_length};
+// The checks of a call but that of the lengths, in document 01's order, for whatever the arrays hold. Nothing is changed.
+ghost use Rattle.std.specs.Prelude.{◌≡◌, ◌&&◌, List, ℕ, length};
+ghost use Rattle.tables_model.specs.Layout.{entries};
 ghost use Rattle.tables_model.specs.Visits.{tables_in};
-ghost use Rattle.state.specs.Answers.{number_and_value};
+ghost use Rattle.state.specs.Answers.{checked};
 ghost use Rattle.book.specs.Book.{refused_by};
 ghost use Rattle.state.specs.Requests.{call_of};
 ghost use Rattle.state.specs.World.{is_open_phase};
@@ -15,8 +13,7 @@ use crate::refuse::{
 };
 use journal::Control;
 use rows::limits::{ACTIVE_LIMIT, ROW_LIMIT, SCOPE_LIMIT, TAIL_LIMIT};
-use rows::{Cell, Visit};
-use state::answers::Answer;
+use state::answers::Refusal;
 use state::ram::Phase;
 use state::requests::Request;
 use tables_model::{CellSet, Counts};
@@ -25,149 +22,47 @@ use tables_model::{CellSet, Counts};
 fn is_coherent(c: Control, t: Counts) -> bool
     ensures { (vs : List ℕ) → result ≡ is_coherent c (tables_in t vs) }
 {
-    if TAIL_LIMIT < c.waiting {
-        return false;
-    }
-    if ROW_LIMIT - c.waiting < c.stored {
-        return false;
-    }
-    if ACTIVE_LIMIT < t.count {
-        return false;
-    }
-    t.used <= SCOPE_LIMIT
+    c.waiting <= TAIL_LIMIT
+        && c.stored <= ROW_LIMIT - c.waiting
+        && t.count <= ACTIVE_LIMIT
+        && t.used <= SCOPE_LIMIT
 }
 
 // The store is open, and its counters are within their limits.
 fn is_ready(c: Control, t: Counts) -> bool
     ensures { (vs : List ℕ) → result ≡ (is_open_phase c.phase && is_coherent c (tables_in t vs)) }
 {
-    let phase = c.phase;
-    match phase {
-        Phase::Open => is_coherent(c, t),
-        Phase::Closed => false,
-    }
+    c.phase == Phase::Open && is_coherent(c, t)
 }
 
-pub fn check_begin(c: Control, t: Counts, scopes: &[u16]) -> Answer
-    requires { length scopes.now ≡ flat_length }
-    ensures { (vs : List ℕ) → number_and_value result ≡ refused_by (number_by c (tables_in t vs) (entries scopes.now) Call.begin) }
-{
-    if !is_ready(c, t) {
-        return Answer::Closed;
-    }
-    refuse_begin(t, scopes, c.stored + c.waiting)
-}
-
-pub fn check_change(
+// `Ok` where no check refuses the request. It is inlined, so that a caller with one kind of request has the checks of that kind alone.
+#[inline(always)]
+pub fn check(
     c: Control,
     t: Counts,
     visits: &[u16],
     scopes: &[u16],
-    v: Visit,
-    k: Cell,
-) -> Answer
+    request: Request,
+) -> Result<(), Refusal>
     requires { Flat (length visits.now) (length scopes.now) }
-    ensures { (a : ℤ) → number_and_value result
-        ≡ refused_by (number_by c (tables_in t visits.now) (entries scopes.now) (Call.change v.0 k.0 a)) }
+    ensures { checked result ≡ refused_by (number_by c (tables_in t visits.now) (entries scopes.now) (call_of request)) }
 {
     if !is_ready(c, t) {
-        return Answer::Closed;
+        return Err(Refusal::Closed);
     }
-    refuse_change(t, visits, scopes, c.stored + c.waiting, v, k)
-}
-
-pub fn check_hand_over(
-    c: Control,
-    t: Counts,
-    visits: &[u16],
-    scopes: &[u16],
-    g: Visit,
-    r: Visit,
-    k: Cell,
-) -> Answer
-    requires { Flat (length visits.now) (length scopes.now) }
-    ensures { number_and_value result ≡ refused_by (number_by c (tables_in t visits.now) (entries scopes.now) (Call.hand_over g.0 r.0 k.0)) }
-{
-    if !is_ready(c, t) {
-        return Answer::Closed;
-    }
-    let one = CellSet::Only(k);
-    refuse_hand_over(t, visits, scopes, c.stored + c.waiting, g, r, one)
-}
-
-pub fn check_hand_over_all(
-    c: Control,
-    t: Counts,
-    visits: &[u16],
-    scopes: &[u16],
-    g: Visit,
-    r: Visit,
-) -> Answer
-    requires { Flat (length visits.now) (length scopes.now) }
-    ensures { number_and_value result ≡ refused_by (number_by c (tables_in t visits.now) (entries scopes.now) (Call.hand_over_all g.0 r.0)) }
-{
-    if !is_ready(c, t) {
-        return Answer::Closed;
-    }
-    let all = CellSet::Every;
-    refuse_hand_over(t, visits, scopes, c.stored + c.waiting, g, r, all)
-}
-
-// Commit and abort.
-pub fn check_end(c: Control, t: Counts, visits: &[u16], v: Visit) -> Answer
-    requires { length visits.now ≡ visits_length }
-    ensures { (scopes : List Scope)
-        → (number_and_value result ≡ refused_by (number_by c (tables_in t visits.now) scopes (Call.commit v.0)))
-        × (number_and_value result ≡ refused_by (number_by c (tables_in t visits.now) scopes (Call.abort v.0))) }
-{
-    if !is_ready(c, t) {
-        return Answer::Closed;
-    }
-    refuse_end(t, visits, v)
-}
-
-pub fn check_force(c: Control, t: Counts) -> Answer
-    ensures { (vs : List ℕ) (scopes : List Scope) → number_and_value result ≡ refused_by (number_by c (tables_in t vs) scopes Call.force) }
-{
-    if is_ready(c, t) {
-        Answer::Done
-    } else {
-        Answer::Closed
-    }
-}
-
-pub fn check_flush(c: Control, t: Counts, page: u8) -> Answer
-    ensures { (vs : List ℕ) (scopes : List Scope) → number_and_value result ≡ refused_by (number_by c (tables_in t vs) scopes (Call.flush page)) }
-{
-    if !is_ready(c, t) {
-        return Answer::Closed;
-    }
-    refuse_flush(page)
-}
-
-pub fn check_read(c: Control, t: Counts, k: Cell) -> Answer
-    ensures { (vs : List ℕ) (scopes : List Scope) → number_and_value result ≡ refused_by (number_by c (tables_in t vs) scopes (Call.read k.0)) }
-{
-    if !is_ready(c, t) {
-        return Answer::Closed;
-    }
-    refuse_read(k)
-}
-
-// The checks of the request.
-pub fn check(c: Control, t: Counts, visits: &[u16], scopes: &[u16], request: Request) -> Answer
-    requires { Flat (length visits.now) (length scopes.now) }
-    ensures { number_and_value result ≡ refused_by (number_by c (tables_in t visits.now) (entries scopes.now) (call_of request)) }
-{
+    let rows = c.stored + c.waiting;
     match request {
-        Request::Begin => check_begin(c, t, scopes),
-        Request::Change(v, k, _) => check_change(c, t, visits, scopes, v, k),
-        Request::HandOver(g, r, k) => check_hand_over(c, t, visits, scopes, g, r, k),
-        Request::Commit(v) => check_end(c, t, visits, v),
-        Request::Abort(v) => check_end(c, t, visits, v),
-        Request::Force => check_force(c, t),
-        Request::Flush(p) => check_flush(c, t, p),
-        Request::Read(k) => check_read(c, t, k),
-        Request::HandOverAll(g, r) => check_hand_over_all(c, t, visits, scopes, g, r),
+        Request::Begin => refuse_begin(t, scopes, rows),
+        Request::Change(v, k, _) => refuse_change(t, visits, scopes, rows, v, k),
+        Request::HandOver(g, r, k) => {
+            refuse_hand_over(t, visits, scopes, rows, g, r, CellSet::Only(k))
+        }
+        Request::HandOverAll(g, r) => {
+            refuse_hand_over(t, visits, scopes, rows, g, r, CellSet::Every)
+        }
+        Request::Commit(v) | Request::Abort(v) => refuse_end(t, visits, v),
+        Request::Force => Ok(()),
+        Request::Flush(page) => refuse_flush(page),
+        Request::Read(k) => refuse_read(k),
     }
 }

@@ -12,8 +12,8 @@ use Rattle.tables_model.specs.declared.Whom.TheVariants.{One}
 use Rattle.state.specs.declared.ram.Phase.{Phase}
 use Rattle.state.specs.declared.ram.Phase.TheVariants.{Open, Closed}
 use Rattle.journal.specs.declared.Control.{Control}
-use Rattle.journal.specs.declared.fuse.Spent.{Spent}
-use Rattle.journal.specs.declared.fuse.Spent.TheVariants.{Lands, Beyond}
+use Rattle.std.specs.Prelude.{Option, Some, None}
+use Rattle.state.specs.declared.ram.Fuse.{Fuse}
 use Rattle.journal.specs.Writes.{spend_of}
 use Rattle.journal.specs.Journal.{spent, paged_if, paged}
 use Rattle.wal.specs.Writing.{row_count}
@@ -27,9 +27,9 @@ counters-paged : (c : Control) (charts : List ℕ) (p : ℕ) (page : List ℕ) �
 unfolding paged
 counters-paged c charts p page n = go c.phase
   where
-    write : (s : Spent) → Counters (spent c s)
-    write (Lands f) = record { few = n.few; room = n.room }
-    write Beyond = record { few = omega arith; room = omega (arith, n.room) }
+    write : (s : Option Fuse) → Counters (spent c s)
+    write (Some f) = record { few = n.few; room = n.room }
+    write None = record { few = omega arith; room = omega (arith, n.room) }
 
     go : (q : Phase) → Counters (paged_if q c charts p page).control
     go Closed = n

@@ -9,6 +9,8 @@ use Rattle.tables_model.specs.declared.Counts.{Counts}
 use Rattle.tables_model.specs.declared.Tables.{Tables}
 use Rattle.tables_model.specs.Layout.{entries}
 use Rattle.tables_model.specs.Rows.{Ready, index}
+use Rattle.tables_model.specs.declared.CellSet.{CellSet}
+use Rattle.tables_model.specs.declared.CellSet.TheVariants.{Only, Every}
 use Rattle.tables_model.specs.declared.Whom.TheVariants.{One}
 use Rattle.tables_model.specs.Visits.{tables_in, with_begun, with_ended, with_used}
 use Rattle.tables_model.specs.Table.{Scopes, scopes_changed, scopes_handed, scopes_ended}
@@ -70,6 +72,11 @@ flushed x p =
       tables = x.tables;
       scopes = x.scopes;
     }
+
+-- the row of a hand-over: one, whatever the number of cells
+abbrev pub handed_row : ℕ → ℕ → CellSet → Row
+handed_row g r (Only c) = Row.hand_over g r c.0
+handed_row g r Every = Row.hand_over_all g r
 
 -- the row is written, and the giver's scopes of these cells pass to the receiver
 abbrev pub cells_handed : Core → Row → ℕ → ℕ → (ℕ → Bool) → Core

@@ -1,5 +1,5 @@
 -- A call from its checks to what it gives back and leaves, for whatever it is handed.
-use Rattle.std.specs.Prelude.{ℕ, zero, suc, ◌+◌, ◌-◌, ◌≡◌, Bool, cond, not, List, [], map, ℤ, pos}
+use Rattle.std.specs.Prelude.{ℕ, zero, suc, ◌+◌, ◌-◌, ◌≡◌, Bool, cond, not, Ok, Err, List, [], map, ℤ, pos, ⊤}
 use Rattle.book.specs.Limits.{log_length, charts_length}
 use Rattle.book.specs.Scopes.{Scope as Entry}
 use Rattle.book.specs.Calls.{Call, ending, returns}
@@ -11,8 +11,8 @@ use Rattle.tables_model.specs.Entries.{scope_in}
 use Rattle.tables_model.specs.Layout.{flat_length, visits_length}
 use Rattle.tables_model.specs.Meaning.{scope_of}
 use Rattle.state.specs.declared.ram.State.{State}
-use Rattle.state.specs.declared.answers.Answer.{Answer}
-use Rattle.state.specs.declared.answers.Answer.TheVariants as Answer
+use Rattle.state.specs.declared.answers.Done.{Done}
+use Rattle.state.specs.declared.answers.Refusal.TheVariants as Refusal
 use Rattle.state.specs.declared.ram.Phase.TheVariants.{Open, Closed}
 use Rattle.state.specs.Answers.{rows_and_pages, refusal, case_of, done_case, HasCase}
 use Rattle.state.specs.World.{World, right_lengths, is_open_phase, in_limits, cleared}
@@ -111,9 +111,9 @@ pub record Flat (visits scopes : ℕ) : Type 0 where
   pub scopes_long : scopes ≡ flat_length
 
 -- the power held in an accepted call: it leaves what its work left
-pub record Held (c : Control) (t : Counts) (a : Answer) (rows pages : ℕ) (copy tail visits flat : List ℕ) (r : Outcome) (copy' tail' visits' flat' : List ℕ) : Type 0 where
+pub record Held (c : Control) (t : Counts) (d : Done) (rows pages : ℕ) (copy tail visits flat : List ℕ) (r : Outcome) (copy' tail' visits' flat' : List ℕ) : Type 0 where
   pub running : c.phase ≡ Open
-  pub is : r ≡ record { answer = a; control = c; counts = t; writes = record { rows = rows; pages = pages } }
+  pub is : r ≡ record { answer = Ok d; control = c; counts = t; writes = record { rows = rows; pages = pages } }
   pub copy-same : copy' ≡ copy
   pub tail-same : tail' ≡ tail
   pub visits-same : visits' ≡ visits
@@ -122,6 +122,21 @@ pub record Held (c : Control) (t : Counts) (a : Answer) (rows pages : ℕ) (copy
 -- it failed: every number of RAM is 0
 pub record Failed (c : Control) (rows : ℕ) (r : Outcome) (copy tail visits flat : List ℕ) : Type 0 where
   pub stopped : c.phase ≡ Closed
-  pub answer : r.answer ≡ Answer.Closed
+  pub answer : r.answer ≡ Err Refusal.Closed
   pub writes : r.writes ≡ record { rows = rows; pages = 0 }
   pub zero : Zeroed r copy tail visits flat
+
+-- a read changes nothing
+pub record Unchanged (c : Control) (t : Counts) (log charts copy tail visits flat : List ℕ) (c' : Control) (t' : Counts) (log' charts' copy' tail' visits' flat' : List ℕ) : Type 0 where
+  pub control-same : c' ≡ c
+  pub counts-same : t' ≡ t
+  pub log-same : log' ≡ log
+  pub charts-same : charts' ≡ charts
+  pub copy-same : copy' ≡ copy
+  pub tail-same : tail' ≡ tail
+  pub visits-same : visits' ≡ visits
+  pub flat-same : flat' ≡ flat
+
+abbrev pub IfRead : Call → Type 0 → Type 0
+IfRead (Call.read c) P = P
+IfRead k P = ⊤

@@ -21,12 +21,18 @@ hand_over_refusal x rows g r in_range cs =
     (9, not (is_listed x.tables g)) else (9, not (is_listed x.tables r)) else (12, eqb g r) else (10, not in_range) else
     (13, not (holds_by x g cs)) else (8, not (room_by x rows 1)) else 0
 
-unfoldable pub refusal_by : Index → ℕ → Call → ℕ
-refusal_by x rows Call.begin =
+abbrev pub begin_refusal : Index → ℕ → ℕ
+begin_refusal x rows =
     (6, leb visit_limit x.tables.begun) else (7, leb active_limit x.tables.count) else (8, not (room_by x rows 2)) else 0
-refusal_by x rows (Call.change v c a) =
+
+abbrev pub change_refusal : Index → ℕ → ℕ → ℕ → ℕ
+change_refusal x rows v c =
     (9, not (is_listed x.tables v)) else (10, not (is_cell c)) else (11, not (grows_by x v c || ltb x.tables.used scope_limit)) else
     (8, not (room_by x rows 2)) else 0
+
+unfoldable pub refusal_by : Index → ℕ → Call → ℕ
+refusal_by x rows Call.begin = begin_refusal x rows
+refusal_by x rows (Call.change v c a) = change_refusal x rows v c
 refusal_by x rows (Call.hand_over g r c) = hand_over_refusal x rows g r (is_cell c) (only c)
 refusal_by x rows (Call.commit v) = (9, not (is_listed x.tables v)) else 0
 refusal_by x rows (Call.abort v) = (9, not (is_listed x.tables v)) else 0

@@ -9,6 +9,7 @@ use Rattle.calls.proofs.act.flush.Goals as goal
 pub returns : goal.returns
 returns c =
     let a = c.args in
+    let p = c.from-p.ensures in
     let e : 32 * a.page + 32 - 32 * a.page ≡ 32 = omega arith in
-    let m = rw c.read_mark.ensures at c.up_to_mark-m.ensures.0 in
-    λ t visits scopes. flushes (core a.c t visits a.log.now a.charts.now a.copy.now a.tail.now scopes) a.page _ _ _ m c.force_up_to-d.ensures (rw e at c.write_page.ensures)
+    let m = rw (c.read_mark.ensures, p) at c.up_to_mark-m.ensures.0 in
+    λ t visits scopes. flushes (core a.c t visits a.log.now a.charts.now a.copy.now a.tail.now scopes) a.page _ _ _ m c.force_up_to-d.ensures (rw (p, e) at c.write_page.ensures)
