@@ -1,4 +1,3 @@
-pub mod Fuses
 pub mod Meaning
 pub mod Room
 pub mod RowsInBytes

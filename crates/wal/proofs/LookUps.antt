@@ -1,18 +1,16 @@
--- A row looked up by its number, a change told by three bytes of its row, and the search downwards for the change before another. Assumes nothing.
+-- A row looked up by its number, and the search downwards for the change before another. Assumes nothing.
 use Prim.Native.Nat.{ℕ, zero, suc, ◌+◌, ◌-◌, ◌≤◌, ◌<◌, min, max}
 use native.Mathlib.Omega.{arith}
-use native.Mathlib.Nat.{add-zero, sub-zero, min-eq_left, min-eq_right}
+use native.Mathlib.Nat.{sub-zero, min-eq_left, min-eq_right}
 use mathlib.Core.Path.{◌≡◌, refl, ap, sym, ◌∙◌}
-use mathlib.Core.Bool.{Bool, true, false, cond, ◌&&◌, and-true, and-false, and_comm}
+use mathlib.Core.Bool.{Bool, true, false, cond}
 use mathlib.Core.List.{List}
-use lib.ListN.{get_or}
-use lib.IntN.{ℤ}
 use lib.Dec.{eqb, leb}
 use borrow.Author.Tests.{le-leb, lt-leb, ne_eqb, leb-true, leb-false}
 use Rattle.std.specs.Prelude.{Option, Some, None}
 use Rattle.std.specs.Option.{UnwrapsOrElse}
 use Rattle.book.specs.Rows.{Row, begin}
-use Rattle.book.specs.RowBytes.{pair, row_of, row_of_kind}
+use Rattle.book.specs.RowBytes.{row_of}
 use Rattle.tables_model.specs.Lookup.{is_change_by, previous}
 use Rattle.journal.specs.Journal.{Journal}
 use Rattle.rows.specs.declared.Lsn.{Lsn}
@@ -58,23 +56,6 @@ module _ (b : List ℕ) (base rows n : ℕ) where
 
   pub behind-part : base + rows < n → row_of_part b base rows n ≡ begin 0
   behind-part h = rw (le-leb 1 (n - base) (omega arith), lt-leb (n - base) rows (omega arith))
-
--- ── A change, told by cell, visit and kind ────────────────────────────────────────────────────────────────────────────
-
-change-by-kind : (maker cell k v r c u : ℕ) (a : ℤ) → is_change_by maker cell (row_of_kind k v r c u a) ≡ (eqb c cell && (eqb v maker && eqb k 2))
-change-by-kind maker cell zero v r c u a = simp and-false
-change-by-kind maker cell (suc zero) v r c u a = simp and-false
-change-by-kind maker cell (suc (suc zero)) v r c u a = simp and-true (and_comm (eqb v maker) (eqb c cell))
-change-by-kind maker cell (suc (suc (suc zero))) v r c u a = simp and-false
-change-by-kind maker cell (suc (suc (suc (suc zero)))) v r c u a = simp and-false
-change-by-kind maker cell (suc (suc (suc (suc (suc zero))))) v r c u a = simp and-false
-change-by-kind maker cell (suc (suc (suc (suc (suc (suc zero)))))) v r c u a = simp and-false
-change-by-kind maker cell (suc (suc (suc (suc (suc (suc (suc k))))))) v r c u a =
-    let n = suc (suc (suc (suc (suc (suc (suc k)))))) in let not-2 : eqb n 2 ≡ false = ne_eqb n 2 (λ e. omega arith) in simp (not-2, and-false)
-
-pub change-by-bytes : (b : List ℕ) (maker cell : ℕ)
-    → is_change_by maker cell (row_of b) ≡ (eqb (get_or b 3 0) cell && (eqb (pair b 1 10) maker && eqb (get_or b 0 0) 2))
-change-by-bytes b maker cell = rw (add-zero (get_or b 0 0), add-zero (get_or b 3 0)) (change-by-kind maker cell (get_or b 0 0) _ _ _ _ _)
 
 -- ── The search downwards ──────────────────────────────────────────────────────────────────────────────────────────────
 
