@@ -1,6 +1,5 @@
 pub mod LookUps
 pub mod ScanTurns
-pub mod Bounds
 pub mod PageTurns
 pub mod Laying
 pub mod Searches

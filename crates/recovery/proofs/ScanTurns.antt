@@ -1,5 +1,5 @@
 -- The turns of the loops that check a log. Assumes nothing.
-use Rattle.std.proofs.Common.{◌≡◌, ℕ, suc, ◌+◌, ◌-◌, ◌<◌, ◌≤◌, true, false, Option, Some, None, Result, Ok, Err, List, sym, refl, subst, add-one, arith}
+use Rattle.std.proofs.Common.{◌≡◌, ℕ, suc, ◌+◌, ◌-◌, ◌<◌, ◌≤◌, true, false, Option, Some, None, is_some, Result, Ok, Err, List, sym, refl, subst, add-one, arith, ap}
 use Rattle.std.specs.Option.{option_or}
 use Rattle.book.specs.Rows as book
 use Rattle.rows.specs.Reading.{is_blank, read_of}
@@ -83,16 +83,29 @@ module _ (log : List ℕ) (k : ℕ) (x : Index) (h : Ranged x) where
 -- ── The whole log ─────────────────────────────────────────────────────────────────────────────────────────────────────
 
 module _ (log : List ℕ) (x : Index) (s : Scanned) (e : s ≡ scan_from 4096 0 log x) where
-  pub all-rows : s.bad ≡ None → (n : Option BadRow) → n ≡ first_set (4096 - s.rows) s.rows log
-      → record { rows = s.rows; bad = n; index = s.index } ≡ scanned log x
+  -- the rows are all good, so the bytes behind them decide
+  pub all-rows : is_some s.bad ≡ false → (late : Option BadRow) → late ≡ first_set (4096 - s.rows) s.rows log
+      → record { rows = s.rows; bad = late; index = s.index } ≡ scanned log x
   unfolding scanned
-  all-rows z n f = rw (← e, z, f)
-
-  pub bad-row : (b : BadRow) → s.bad ≡ Some b → s ≡ scanned log x
-  unfolding scanned
-  bad-row b z = rw (← e) (kept (first_set (4096 - s.rows) s.rows log))
+  all-rows z late f = rw (← e, ← f) (ap with_bad (go s.bad z))
     where
-      kept : (late : Option BadRow) → s ≡ record { rows = s.rows; bad = option_or s.bad late; index = s.index }
-      kept late =
-          subst (λ (o : Option BadRow). ◌≡◌ {A = Scanned} (record { rows = s.rows; bad = o; index = s.index }) (record { rows = s.rows; bad = option_or o late; index = s.index }))
-          (sym z) refl
+      with_bad : Option BadRow → Scanned
+      with_bad o = record { rows = s.rows; bad = o; index = s.index }
+
+      go : (o : Option BadRow) → is_some o ≡ false → late ≡ option_or o late
+      go None z = refl
+      go (Some b) z = cc
+
+  pub bad-row : is_some s.bad ≡ true → s ≡ scanned log x
+  unfolding scanned
+  bad-row z = rw (← e) (ap with_bad (go s.bad z))
+    where
+      late : Option BadRow
+      late = first_set (4096 - s.rows) s.rows log
+
+      with_bad : Option BadRow → Scanned
+      with_bad o = record { rows = s.rows; bad = o; index = s.index }
+
+      go : (o : Option BadRow) → is_some o ≡ true → o ≡ option_or o late
+      go (Some b) z = refl
+      go None z = cc

@@ -49,7 +49,7 @@ pub fn backward(
     visits: &[u16],
     scopes: &mut [u16],
 ) -> Control
-    requires recovers { Recovers s (length log.old) (length copy.old) (length tail.old) (length visits.now) (length scopes.old) }
+    requires recovers { Recovers (length log.old) (length copy.old) (length tail.old) (length visits.now) (length scopes.old) }
     requires tail_value { tail.old ≡ replicate tail_length 0 }
     ensures { ram result log.new tail.new copy.new
         ≡ backward_of fuse s.rows (index s.counts visits.now scopes.old) log.old copy.old }

@@ -5,7 +5,7 @@ ghost use Rattle.book.specs.Limits.{row_limit, log_length, charts_length, tail_l
 ghost use Rattle.state.specs.Answers.{refusal_answer};
 ghost use Rattle.wal.specs.Writing.{ram};
 ghost use Rattle.wal.specs.Arrays.{left};
-ghost use Rattle.recovery_model.specs.Checking.{Sound, found};
+ghost use Rattle.recovery_model.specs.Checking.{found};
 ghost use Rattle.recovery_model.specs.Answering.{OpenOutcome};
 ghost use Rattle.recovery_model.specs.Scan.{number_of_reason, scanned};
 ghost use Rattle.recovery_model.specs.Openings.{no_index, settled_opening, recovered_by, checked_by};
@@ -82,8 +82,7 @@ fn recover(
     visits: &mut [u16; VISITS_LENGTH],
     scopes: &mut [u16; FLAT_LENGTH],
 ) -> Outcome
-    requires lengths { (length log.old ≡ log_length) × (length charts.now ≡ charts_length) }
-    requires sound { Sound s }
+    requires { (length log.old ≡ log_length) × (length charts.now ≡ charts_length) }
     ensures { OpenOutcome (recovered_by fuse log.old charts.now (found s visits.old scopes.old))
         result log.new charts.now copy.new tail.new visits.new scopes.new }
 {
@@ -116,8 +115,7 @@ fn open_scanned(
     visits: &mut [u16; VISITS_LENGTH],
     scopes: &mut [u16; FLAT_LENGTH],
 ) -> Outcome
-    requires lengths { (length log.old ≡ log_length) × (length charts.now ≡ charts_length) }
-    requires sound { Sound s }
+    requires { (length log.old ≡ log_length) × (length charts.now ≡ charts_length) }
     ensures { OpenOutcome (checked_by fuse log.old charts.now (found s visits.old scopes.old))
         result log.new charts.now copy.new tail.new visits.new scopes.new }
 {

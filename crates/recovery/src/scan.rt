@@ -120,12 +120,9 @@ pub fn scan_log(log: &[u8], visits: &mut [u16], scopes: &mut [u16]) -> LogScan
 {
     visits.fill(0);
     scopes.fill(0);
-    let s = scan_rows(log, Counts::default(), visits, scopes);
-    match s.bad {
-        Some(_) => s,
-        None => LogScan {
-            bad: first_set(log, s.rows),
-            ..s
-        },
+    let mut s = scan_rows(log, Counts::default(), visits, scopes);
+    if s.bad.is_none() {
+        s.bad = first_set(log, s.rows);
     }
+    s
 }

@@ -30,26 +30,10 @@ judgement t (Err why) visits scopes = record { judged = Bad why; index = index t
 abbrev pub found : LogScan → List ℕ → List ℕ → Scanned
 found s visits scopes = record { rows = s.rows; bad = s.bad; index = index s.counts visits scopes }
 
--- the lengths of the stored bytes and of the arrays of RAM
-pub record Lengths (log charts copy tail visits scopes : ℕ) : Type 0 where
-  pub log-long : log ≡ log_length
-  pub charts-long : charts ≡ charts_length
-  pub copy-long : copy ≡ charts_length
-  pub tail-long : tail ≡ tail_length
-  pub visits-long : visits ≡ visits_length
-  pub scopes_long : scopes ≡ flat_length
-
--- so many rows as a log has at most, and counters within the tables
-pub record Sound (s : LogScan) : Type 0 where
-  pub rows : s.rows ≤ row_limit
-  pub range : InRange s.counts.count s.counts.used
-
--- what the forward and the backward part ask: the lengths, and counters within them
-pub record Recovers (s : LogScan) (log copy tail visits scopes : ℕ) : Type 0 where
+-- what the backward part asks: the lengths of the stored log and of the arrays of RAM
+pub record Recovers (log copy tail visits scopes : ℕ) : Type 0 where
   pub log-long : log ≡ log_length
   pub copy-long : copy ≡ charts_length
   pub tail-long : tail ≡ tail_length
   pub visits-long : visits ≡ visits_length
   pub scopes_long : scopes ≡ flat_length
-  pub rows : s.rows ≤ row_limit
-  pub range : InRange s.counts.count s.counts.used

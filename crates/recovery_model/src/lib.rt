@@ -4,7 +4,9 @@
 // proved.
 #![tactic(auto)]
 
-ghost use Rattle.std.specs.Prelude.{◌≡◌};
+ghost use Rattle.std.specs.Prelude.{◌≡◌, ◌≤◌};
+ghost use Rattle.book.specs.Limits.{row_limit};
+ghost use Rattle.tables_model.specs.Visits.{InRange};
 ghost use Rattle.recovery_model.specs.Scan.{reason_of};
 
 use rows::Lsn;
@@ -36,10 +38,13 @@ pub struct BadRow {
     pub reason: Reason,
 }
 
-// What the check of a log found: so many rows, the counters of the tables after them, and the first bad row, if there is one.
+// What the check of a log found: so many rows, at most those that a log has; the counters of the tables after them, within the tables; and the first bad
+// row, if there is one.
 #[derive(Clone, Copy)]
 pub struct LogScan {
     pub rows: usize,
     pub counts: Counts,
     pub bad: Option<BadRow>,
+    ghost few: { rows ≤ row_limit },
+    ghost range: { InRange counts.count counts.used },
 }

@@ -12,4 +12,4 @@ pub settle-requires : goal.settle-requires
 settle-requires c =
     let a = c.args in
     let n = rw (← c.backward-c.ensures) at
-    (counters-backward a.fuse a.s.rows (index a.s.counts a.visits.now a.scopes.now) a.log.now c.redo.new.copy c.requires.sound.rows) in (n.few, n.room)
+    (counters-backward a.fuse a.s.rows (index a.s.counts a.visits.now a.scopes.now) a.log.now c.redo.new.copy a.s.few) in (n.few, n.room)
