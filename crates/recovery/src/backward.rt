@@ -1,18 +1,19 @@
 // The backward part of an opening: open changes fall over all visits, an abort row ends each active visit, then a force.
 ghost use Rattle.std.specs.Prelude.{◌≡◌, ◌≤◌, length, replicate};
-ghost use Rattle.book.specs.Limits.{active_limit};
+ghost use Rattle.book.specs.Limits.{active_limit, log_length};
 ghost use Rattle.tables_model.specs.Layout.{visits_length, actives};
 ghost use Rattle.tables_model.specs.Rows.{index};
 ghost use Rattle.state.specs.World.{tail_length};
 ghost use Rattle.wal.specs.Writing.{ram, Fits};
 ghost use Rattle.recovery_model.specs.Backward.{abort_all, backward as backward_of};
-ghost use Rattle.recovery_model.specs.Checking.{Recovers};
 
 use journal::Control;
 use journal::force::force;
 use recovery_model::LogScan;
 use rows::Row;
+use rows::limits::{CHARTS_LENGTH, TAIL_LENGTH};
 use state::ram::{Fuse, Phase};
+use tables::layout::{FLAT_LENGTH, VISITS_LENGTH};
 use tables::visits::active_at;
 use tables_model::Whom;
 use wal::take_back::take_back;
@@ -44,12 +45,12 @@ pub fn backward(
     fuse: Fuse,
     s: LogScan,
     log: &mut [u8],
-    tail: &mut [u8],
-    copy: &mut [u8],
-    visits: &[u16],
-    scopes: &mut [u16],
+    tail: &mut [u8; TAIL_LENGTH],
+    copy: &mut [u8; CHARTS_LENGTH],
+    visits: &[u16; VISITS_LENGTH],
+    scopes: &mut [u16; FLAT_LENGTH],
 ) -> Control
-    requires recovers { Recovers (length log.old) (length copy.old) (length tail.old) (length visits.now) (length scopes.old) }
+    requires log_len { length log.old ≡ log_length }
     requires tail_value { tail.old ≡ replicate tail_length 0 }
     ensures { ram result log.new tail.new copy.new
         ≡ backward_of fuse s.rows (index s.counts visits.now scopes.old) log.old copy.old }

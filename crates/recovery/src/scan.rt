@@ -3,7 +3,6 @@ ghost use Rattle.std.specs.Prelude.{◌≡◌, ◌-◌, length};
 ghost use Rattle.rows.specs.Meaning.{meant};
 ghost use Rattle.book.specs.Rows.{undone_by};
 ghost use Rattle.book.specs.Limits.{row_limit, log_length};
-ghost use Rattle.tables_model.specs.Layout.{flat_length, visits_length};
 ghost use Rattle.tables_model.specs.Rows.{Ready, index, judge_by};
 ghost use Rattle.recovery_model.specs.Scan.{row_in, ruled, judge_row, scan_from, first_set, scanned};
 ghost use Rattle.recovery_model.specs.Checking.{Next, judgement, found};
@@ -14,6 +13,7 @@ use recovery_model::{BadRow, LogScan, Reason};
 use rows::limits::ROW_LIMIT;
 use rows::reader::{is_blank, read_row};
 use rows::{Lsn, Read, Row};
+use tables::layout::{FLAT_LENGTH, VISITS_LENGTH};
 use tables::rules::judge;
 use tables::steps::step;
 use tables_model::Counts;
@@ -113,9 +113,12 @@ fn first_set(log: &[u8], k: usize) -> Option<BadRow>
 }
 
 // The whole log: all rows, then zero bytes to the end. Both tables are cleared first.
-pub fn scan_log(log: &[u8], visits: &mut [u16], scopes: &mut [u16]) -> LogScan
-    requires log_len { length log.now ≡ log_length }
-    requires visits_len { (length visits.old ≡ visits_length) × (length scopes.old ≡ flat_length) }
+pub fn scan_log(
+    log: &[u8],
+    visits: &mut [u16; VISITS_LENGTH],
+    scopes: &mut [u16; FLAT_LENGTH],
+) -> LogScan
+    requires { length log.now ≡ log_length }
     ensures { found result visits.new scopes.new ≡ scanned log.now no_index }
 {
     visits.fill(0);

@@ -1,11 +1,8 @@
 -- What the functions that check a log and recover ask, and what the check gives back.
 use Rattle.std.specs.Prelude.{ℕ, ◌≤◌, ◌<◌, ◌≡◌, Option, Some, None, Result, Ok, Err, List}
-use Rattle.book.specs.Limits.{row_limit, log_length, charts_length}
+use Rattle.book.specs.Limits.{row_limit, log_length}
 use Rattle.tables_model.specs.declared.Counts.{Counts}
-use Rattle.tables_model.specs.Visits.{InRange}
-use Rattle.tables_model.specs.Layout.{visits_length, flat_length}
 use Rattle.tables_model.specs.Rows.{index}
-use Rattle.state.specs.World.{tail_length}
 use Rattle.recovery_model.specs.declared.LogScan.{LogScan}
 use Rattle.recovery_model.specs.declared.Reason.{Reason}
 use Rattle.recovery_model.specs.Scan.{Judgement, Taken, Ends, Bad, Scanned}
@@ -29,11 +26,3 @@ judgement t (Err why) visits scopes = record { judged = Bad why; index = index t
 -- what the check of a log found, with the flat tables after it
 abbrev pub found : LogScan → List ℕ → List ℕ → Scanned
 found s visits scopes = record { rows = s.rows; bad = s.bad; index = index s.counts visits scopes }
-
--- what the backward part asks: the lengths of the stored log and of the arrays of RAM
-pub record Recovers (log copy tail visits scopes : ℕ) : Type 0 where
-  pub log-long : log ≡ log_length
-  pub copy-long : copy ≡ charts_length
-  pub tail-long : tail ≡ tail_length
-  pub visits-long : visits ≡ visits_length
-  pub scopes_long : scopes ≡ flat_length

@@ -12,20 +12,20 @@ use Rattle.recovery.proofs.backward.backward.Goals as goal
 pub abort_all-e-requires : goal.abort_all-e-requires
 abort_all-e-requires c =
     let fits : Fits (record { phase = Open; fuse = c.args.fuse; stored = c.args.s.rows; waiting = 0 }) (length c.args.log.now) (length c.args.tail.now) (length c.args.copy.now) = record {
-      sizes = record { log-long = c.requires.recovers.log-long; tail-long = c.requires.recovers.tail-long; few = omega arith; room = omega arith };
-      copy-long = c.requires.recovers.copy-long;
+      sizes = record { log-long = c.requires.log_len; tail-long = search; few = omega arith; room = omega arith };
+      copy-long = search;
     } in
     let fallen : Counters c.take_back-d.result = let a = c.args in
     rw (← c.take_back-d.ensures) at
     (counters-fall_all (a.s.rows + 0) All a.s.counts.used (taking (record { phase = Open; fuse = a.fuse; stored = a.s.rows; waiting = 0 }) a.log.now a.tail.now a.copy.now a.scopes.now) (counters fits)) in
     let k = c.take_back-d.auto in
-    (fits-again fits fallen k.log k.tail k.copy, c.requires.recovers.visits-long, c.args.s.range.count)
+    (fits-again fits fallen k.log k.tail k.copy, search, c.args.s.range.count)
 
 pub force-requires : goal.force-requires
 force-requires c =
     let fits : Fits (record { phase = Open; fuse = c.args.fuse; stored = c.args.s.rows; waiting = 0 }) (length c.args.log.now) (length c.args.tail.now) (length c.args.copy.now) = record {
-      sizes = record { log-long = c.requires.recovers.log-long; tail-long = c.requires.recovers.tail-long; few = omega arith; room = omega arith };
-      copy-long = c.requires.recovers.copy-long;
+      sizes = record { log-long = c.requires.log_len; tail-long = search; few = omega arith; room = omega arith };
+      copy-long = search;
     } in
     let fallen : Counters c.take_back-d.result = let a = c.args in
     rw (← c.take_back-d.ensures) at
