@@ -1,9 +1,8 @@
 // The scope table after a row: a change, a hand-over, an undo, the end of a visit.
-ghost use Rattle.std.specs.Prelude.{◌≡◌, length, slice_index_or, slice_set};
-ghost use Rattle.book.specs.Scopes.{unused as unused_scope};
+ghost use Rattle.std.specs.Prelude.{◌≡◌, length};
 ghost use Rattle.tables_model.specs.Entries.{Sized, Inside};
 ghost use Rattle.tables_model.specs.Layout.{entries as entries_of};
-ghost use Rattle.tables_model.specs.Table.{scopes_in, MayNote, Moves, ClosedRanks, scopes_changed, among, scopes_handed, scopes_ended, handed_on, moved_at, undone_at};
+ghost use Rattle.tables_model.specs.Table.{scopes_in, MayNote, ClosedRanks, scopes_changed, among, scopes_handed, scopes_ended, undone_at};
 
 use crate::entries::{entry_at, put_entry};
 use crate::layout::ENTRY_WIDTH;
@@ -31,18 +30,6 @@ pub fn note_change(t: &mut [u16], used: usize, n: Lsn, v: Visit, c: Cell) -> usi
     }
 }
 
-// Entry i passes to the receiver, if the giver holds it for these cells.
-fn hand_entry(t: &mut [u16], i: usize, g: Visit, r: Visit, cs: CellSet)
-    requires { Inside (length t.old) i }
-    ensures { entries_of t.new
-        ≡ slice_set (entries_of t.old) i (handed_on g.0 r.0 (among cs) (slice_index_or (entries_of t.old) i unused_scope)) }
-{
-    let e = entry_at(t, i);
-    if is_held(e, g, cs) {
-        put_entry(t, i, passed(e, r));
-    }
-}
-
 // A hand-over: every entry of these cells that the giver holds passes to the receiver.
 #[tactic(auto, unfolding(tables_model::specs::Table::scopes_handed))]
 pub fn hand_over(t: &mut [u16], used: usize, g: Visit, r: Visit, cs: CellSet)
@@ -50,7 +37,10 @@ pub fn hand_over(t: &mut [u16], used: usize, g: Visit, r: Visit, cs: CellSet)
     ensures { entries_of t.new ≡ scopes_handed used g.0 r.0 (among cs) (entries_of t.old) }
 {
     for i in 0..used as u32 {
-        hand_entry(t, i as usize, g, r, cs);
+        let e = entry_at(t, i as usize);
+        if is_held(e, g, cs) {
+            put_entry(t, i as usize, passed(e, r));
+        }
     }
 }
 
@@ -63,32 +53,21 @@ pub fn undo_at(t: &mut [u16], i: usize, before: Lsn)
     put_entry(t, i, lowered(e, before));
 }
 
-// Entry i is put behind the entries kept so far, unless the visit holds it or it stands there already. Returns the entries then kept.
-#[tactic(auto, unfolding(tables_model::specs::Table::moved_at))]
-fn move_entry(t: &mut [u16], kept: u32, i: u32, v: Visit) -> u32
-    requires { Moves (length t.old) kept i }
-    ensures { scopes_in result t.new ≡ moved_at v.0 i (scopes_in kept t.old) }
-{
-    let e = entry_at(t, i as usize);
-    if e.holder == v {
-        return kept;
-    }
-    if kept == i {
-        return kept + 1;
-    }
-    put_entry(t, kept as usize, e);
-    kept + 1
-}
-
-// The entries that another visit holds close ranks. Returns how many they are; what stands behind them is not said. `visits::close_ranks` is the same loop;
-// a trait over entries and visits would be longer than both, since its lists of places need a ghost member and laws in each implementation.
+// The entries that another visit holds close ranks; one that keeps its place is not written again. Returns how many they are; what stands behind them is not
+// said. The loop is that of `visits::close_ranks`: a trait over entries and visits would be longer than both, with its members and laws for each.
 fn close_ranks(t: &mut [u16], used: usize, v: Visit) -> usize
     requires { Sized (length t.old) used }
     ensures { ClosedRanks used v.0 (entries_of t.old) (scopes_in result t.new) }
 {
-    let mut kept = 0;
+    let mut kept: u32 = 0;
     for i in 0..used as u32 {
-        kept = move_entry(t, kept, i, v);
+        let e = entry_at(t, i as usize);
+        if e.holder != v {
+            if kept != i {
+                put_entry(t, kept as usize, e);
+            }
+            kept += 1;
+        }
     }
     kept as usize
 }

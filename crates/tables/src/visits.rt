@@ -1,7 +1,7 @@
 // The active visits in their flat form, place by place: the visit and whether an undo row bears it; the first `count` are in use.
 ghost use Rattle.std.specs.Prelude.{◌≡◌, length, slice_index_or, slice_set};
-ghost use Rattle.tables_model.specs.Visits.{tables_in, places_in, Placed, Listed, Shifts, MayBegin, Without};
-ghost use Rattle.tables_model.specs.Visits.{marked, is_listed, with_begun, with_undo, with_ended, kept_at};
+ghost use Rattle.tables_model.specs.Visits.{tables_in, Placed, Listed, MayBegin, Without};
+ghost use Rattle.tables_model.specs.Visits.{is_listed, with_begun, with_undo, with_ended};
 ghost use Rattle.tables_model.specs.Rows.{may_act};
 ghost use Rattle.tables_model.specs.Meaning.{vacant};
 ghost use Rattle.tables_model.specs.Layout.{actives};
@@ -84,17 +84,6 @@ pub fn with_begun(t: Counts, visits: &mut [u16], v: Visit) -> Counts
     }
 }
 
-// An undo row bears the visit, if place i has it.
-fn mark_at(visits: &mut [u16], i: usize, v: Visit)
-    requires { Placed (length visits.old) i }
-    ensures { actives visits.new ≡ slice_set (actives visits.old) i (marked v.0 (slice_index_or (actives visits.old) i vacant)) }
-{
-    let a = active_at(visits, i);
-    if a.visit == v {
-        put_active(visits, i, Active { bears: true, ..a });
-    }
-}
-
 // An undo row bears the visit.
 #[tactic(auto, unfolding(tables_model::specs::Visits::with_undo))]
 pub fn with_undo(t: Counts, visits: &mut [u16], v: Visit)
@@ -102,32 +91,25 @@ pub fn with_undo(t: Counts, visits: &mut [u16], v: Visit)
     ensures { tables_in t visits.new ≡ with_undo (tables_in t visits.old) v.0 }
 {
     for i in 0..t.count as u32 {
-        mark_at(visits, i as usize, v);
+        let a = active_at(visits, i as usize);
+        if a.visit == v {
+            put_active(visits, i as usize, Active { bears: true, ..a });
+        }
     }
-}
-
-// Place i is put behind the places kept so far, unless the visit has it. Returns the places then kept.
-#[tactic(auto, unfolding(tables_model::specs::Visits::kept_at))]
-fn move_active(visits: &mut [u16], kept: u32, i: u32, v: Visit) -> u32
-    requires { Shifts (length visits.old) kept i }
-    ensures { places_in result visits.new ≡ kept_at v.0 i (places_in kept visits.old) }
-{
-    let a = active_at(visits, i as usize);
-    if a.visit == v {
-        return kept;
-    }
-    put_active(visits, kept as usize, a);
-    kept + 1
 }
 
 // The visits but v close ranks. Returns how many they are; what stands behind them is not said.
 fn close_ranks(t: Counts, visits: &mut [u16], v: Visit) -> usize
     requires { Listed (length visits.old) t.count }
-    ensures { Without (tables_in t visits.old) v.0 (places_in result visits.new) }
+    ensures { Without (tables_in t visits.old) v.0 result (actives visits.new) }
 {
-    let mut kept = 0;
+    let mut kept: u32 = 0;
     for i in 0..t.count as u32 {
-        kept = move_active(visits, kept, i, v);
+        let a = active_at(visits, i as usize);
+        if a.visit != v {
+            put_active(visits, kept as usize, a);
+            kept += 1;
+        }
     }
     kept as usize
 }

@@ -1,6 +1,6 @@
 -- A row judged by the tables, and what the tables are after it. Two things are looked up in the log by the caller: `named`, the row that an undo row
 -- names, and `before`, the change before that one in its scope.
-use Rattle.std.specs.Prelude.{ℕ, suc, ◌+◌, ◌-◌, ◌≡◌, Bool, true, false, cond, not, ◌&&◌, ◌||◌, List, ℤ, length, eqb, leb, ltb, is_some, Result, Ok, Err}
+use Rattle.std.specs.Prelude.{ℕ, suc, ◌+◌, ◌-◌, ◌≡◌, Bool, true, false, not, ◌&&◌, ◌||◌, List, ℤ, length, eqb, leb, ltb, is_some, Result, Ok, Err}
 use Rattle.book.specs.Lists.{eq_z}
 use Rattle.book.specs.Limits.{row_limit, active_limit, scope_limit}
 use Rattle.book.specs.Rows.{Row, begin, change, hand_over, undo, commit, abort, hand_over_all}

@@ -133,7 +133,7 @@ undone_at None before ss = ss
 unfoldable pub scopes_undone : Whom → ℕ → ℕ → List Scope → List Scope
 scopes_undone w used before ss = undone_at (highest w used ss) before ss
 
--- ── What the functions ask, and their steps ───────────────────────────────────────────────────────────────────────────
+-- ── What the functions ask, and what they leave ───────────────────────────────────────────────────────────────────────
 
 -- a flat table and the entries in use
 abbrev pub scopes_in : ℕ → List ℕ → Scopes
@@ -153,18 +153,6 @@ pub record MayNote (t : List ℕ) (used v c : ℕ) : Type 0 where
 -- the entry's highest open change, 0 where these visits do not hold it
 abbrev pub last_by : Whom → Scope → ℕ
 last_by w s = cond (covers w s.holder) s.last 0
-
--- entry i is to be put at a place before it, or stays
-pub record Moves (size kept i : ℕ) : Type 0 where
-  pub long : size ≡ flat_length
-  pub before : kept ≤ i
-  pub below : i < scope_limit
-
--- entry i is put behind those kept so far, unless the visit holds it
-unfoldable pub moved_at : ℕ → ℕ → Scopes → Scopes
-moved_at v i x =
-    let s : Scope = get_or x.entries i unused in
-    cond (eqb s.holder v) x (record { used = suc x.used; entries = set x.entries x.used s })
 
 -- the entries that another visit holds stand first
 pub record ClosedRanks (used v : ℕ) (ss : List Scope) (x : Scopes) : Type 0 where

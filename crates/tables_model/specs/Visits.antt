@@ -1,5 +1,5 @@
 -- What the functions over the active visits compute, as equations on the struct `Tables`.
-use Rattle.std.specs.Prelude.{ℕ, suc, ◌≤◌, ◌<◌, ◌≡◌, Bool, false, cond, not, ◌&&◌, ◌||◌, List, ◌++◌, map, length, take, drop, set, get_or, eqb}
+use Rattle.std.specs.Prelude.{ℕ, suc, ◌≤◌, ◌<◌, ◌≡◌, Bool, false, not, ◌&&◌, ◌||◌, List, ◌++◌, map, length, take, drop, set, eqb}
 use Rattle.book.specs.Lists.{keep, any, pad_to}
 use Rattle.book.specs.Limits.{active_limit, scope_limit}
 use Rattle.tables_model.specs.declared.Active.{Active}
@@ -63,31 +63,17 @@ with_ended t v used = record { begun = t.begun; active = pad_to active_limit vac
 abbrev pub with_used : Tables → ℕ → Tables
 with_used t used = record { begun = t.begun; active = t.active; count = t.count; used = used }
 
--- ── The visits in their flat form, and the steps of `with_ended` ───────────────────────────────────────────────────────
+-- ── The visits in their flat form ─────────────────────────────────────────────────────────────────────────────────────
 
 -- the counters, and the flat visits beside them
 abbrev pub tables_in : Counts → List ℕ → Tables
 tables_in t vs = record { begun = t.begun; active = actives vs; count = t.count; used = t.used }
 
--- the places, of which the first ones are kept
-pub record Places : Type 0 where
-  pub kept : ℕ
-  pub all : List Active
-
-abbrev pub places_in : ℕ → List ℕ → Places
-places_in n vs = record { kept = n; all = actives vs }
-
--- place i is put behind those kept so far, unless the visit has it
-unfoldable pub kept_at : ℕ → ℕ → Places → Places
-kept_at v i x =
-    let a : Active = get_or x.all i vacant in
-    cond (is_of v a) x (record { kept = suc x.kept; all = set x.all x.kept a })
-
--- the visits but v stand in the places kept
-pub record Without (t : Tables) (v : ℕ) (x : Places) : Type 0 where
-  pub kept : take x.kept x.all ≡ others v t
-  pub count : x.kept ≡ length (others v t)
-  pub room : x.kept ≤ active_limit
+-- the visits but v stand in the first n places
+pub record Without (t : Tables) (v n : ℕ) (places : List Active) : Type 0 where
+  pub kept : take n places ≡ others v t
+  pub count : n ≡ length (others v t)
+  pub room : n ≤ active_limit
 
 -- the flat visits have their length, and so many places lie within them
 pub record Listed (size count : ℕ) : Type 0 where
@@ -102,10 +88,4 @@ pub record MayBegin (t : Counts) (vs : List ℕ) (v : ℕ) : Type 0 where
 -- the flat visits have their length, and place i lies within them
 pub record Placed (size i : ℕ) : Type 0 where
   pub long : size ≡ visits_length
-  pub below : i < active_limit
-
--- place i is to be put at a place before it, or stays
-pub record Shifts (size kept i : ℕ) : Type 0 where
-  pub long : size ≡ visits_length
-  pub before : kept ≤ i
   pub below : i < active_limit

@@ -6,4 +6,4 @@ use Rattle.tables.proofs.Loops.{mapped}
 use Rattle.tables.proofs.updates.hand_over.Given as goal
 
 abbrev pub invariant-loop-i : goal.invariant-loop-i
-invariant-loop-i l = entries l.t ≡ mapped (handed_on l.g.0 l.r.0 (among l.cs)) l.i (entries l.initial.t)
+invariant-loop-i l = entries l.t ≡ mapped (handed_on l.fn.g.0 l.fn.r.0 (among l.fn.cs)) l.i (entries l.initial.t)

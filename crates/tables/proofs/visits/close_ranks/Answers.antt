@@ -1,21 +1,30 @@
 -- `tables::visits::close_ranks` meets its contract. The loop's invariant: the places kept, and those left without the visit, are all places without the visit. Assumes nothing.
-use Rattle.std.proofs.Common.{◌≤◌, length, sym, ap, ◌∙◌, arith, length-take-le}
-use Rattle.tables_model.specs.Visits.{Places, places_in}
+use Rattle.std.proofs.Common.{◌≡◌, ◌≤◌, true, false, length, get_or, sym, ap, ◌∙◌, arith, length-take-le}
 use Rattle.tables_model.specs.Layout.{actives}
-use Rattle.tables.proofs.Ending.{stays, Turn, turn}
-use Rattle.tables.proofs.Loops.{ranks-end}
+use Rattle.tables_model.specs.Meaning.{vacant}
+use Rattle.tables.proofs.Ending.{stays}
+use Rattle.tables.proofs.Loops.{ranks-kept, ranks-left, ranks-end}
 use Rattle.tables.proofs.Places.{actives-length}
 use Rattle.tables.proofs.visits.close_ranks.Goals as goal
+use Rattle.tables.proofs.visits.close_ranks.Goals.{then-ne, else-ne}
 
 pub loop-i-preserved : goal.loop-i-preserved
 loop-i-preserved c =
     let l = c.loop-i in
-    let m = c.move_active-kept in
-    let v = c.args.v.0 in
-    let x : Places = places_in l.kept l.visits in
-    let w : c.args.t.count ≤ length (actives l.visits) = rw actives-length c.requires.within in
-    let u : Turn v c.args.t.count l.i x (places_in m.result m.new.visits) = rw m.ensures (turn v c.args.t.count l.i x l.invariant.0 c.loop-i-test.true w) in
-    (u.few, u.left ∙ l.invariant.1)
+    let p = stays c.args.v.0 in
+    let n = c.args.t.count in
+    let places = actives l.visits in
+    let long : n ≤ length places = rw actives-length c.requires.within in
+    let kept = ranks-kept p n l.kept l.i places vacant l.invariant.0 c.loop-i-test.true long in
+    let left = ranks-left p n l.kept l.i places vacant c.loop-i-test.true long in
+    elim c.if-ne.branch [
+      | then-ne w ↦
+          let stay : p (get_or places l.i vacant) ≡ true = rw (← c.active_at-a.ensures) (sym c.ne.ensures ∙ w.if-ne.true) in
+          (omega arith, rw (w.kept-is, w.visits-is, w.put_active.ensures, c.active_at-a.ensures) (kept stay ∙ l.invariant.1))
+      | else-ne w ↦
+          let gone : p (get_or places l.i vacant) ≡ false = rw (← c.active_at-a.ensures) (sym c.ne.ensures ∙ w.if-ne.false) in
+          (omega arith, rw (w.kept-is, w.visits-is) (left gone ∙ l.invariant.1))
+    ]
 
 pub returns : goal.returns
 returns c =
