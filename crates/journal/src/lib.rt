@@ -16,7 +16,8 @@ pub mod pages;
 pub mod tail;
 pub mod writes;
 
-// Where the journal stands. A write beyond the fuse closes it: then nothing waits, the fuse is gone, and the rows that landed stay counted.
+// Where the journal stands. A write beyond the fuse closes it: then nothing waits, the fuse is gone, and the rows that landed stay counted. Log and tail
+// are lent beside it: a stored write takes from the tail for the log, and no proof is made of a call that is lent two fields behind references.
 #[derive(Clone, Copy)]
 pub struct Control {
     pub phase: Phase,

@@ -1,4 +1,5 @@
-// The arrays of RAM that a call and an opening work on in place: all of RAM but the counters.
+// The arrays of RAM that a call and an opening work on in place: all of RAM but the counters. Where one call is lent two of them, the struct is taken apart
+// first, since no proof is made of a call that is lent two fields behind references.
 ghost use Rattle.std.specs.Prelude.{◌≡◌};
 ghost use Rattle.journal.specs.Outcomes.{Zeroed};
 ghost use Rattle.wal.specs.Arrays.{left};
