@@ -9,6 +9,7 @@ use lib.ListN.{length, set, get_or, length-map}
 use lib.IntN.{ℤ}
 use borrow.Author.Tests.{eq-eqb}
 use Rattle.std.specs.Prelude.{is_some, Option, Some, None}
+use Rattle.std.specs.Cmp.{both_ways}
 use Rattle.book.specs.Lists.{In, keep, any, pad_to}
 use Rattle.book.specs.Limits.{scope_limit}
 use Rattle.book.specs.Rows.{change}
@@ -26,7 +27,7 @@ use Rattle.tables_model.specs.Meaning.{tables_of, scope_table}
 use Rattle.tables_model.specs.Lookup.{index_of}
 use Rattle.tables_model.proofs.Reversed.{any-reverse, of_reverse, map-reverse}
 use Rattle.tables_model.proofs.Padded.{take-pad, get_or-pad, get_or-in, push-pad, set-pad, one-reverse, replaced}
-use Rattle.tables_model.proofs.Looking.{any-map, both_ways}
+use Rattle.tables_model.proofs.Looking.{any-map}
 use Rattle.tables_model.proofs.ScopesAfter.{starts_at, scopes-started, scopes-grown, one_entry}
 
 -- ── What the search finds ─────────────────────────────────────────────────────────────────────────────────────────────

@@ -10,6 +10,7 @@ use lib.IntN.{ℤ}
 use lib.Dec.{eqb, leb, ltb}
 use borrow.Author.Tests.{eqb-true, eq-eqb, ne_eqb, le-leb}
 use Rattle.std.specs.Prelude.{Option}
+use Rattle.std.specs.Cmp.{both_ways}
 use Rattle.book.specs.Lists.{any, eq_z}
 use Rattle.book.specs.Limits.{row_limit, active_limit, scope_limit}
 use Rattle.book.specs.Rows.{Row, begin, change, hand_over, undo, commit, abort, hand_over_all, undone_by}
@@ -32,7 +33,7 @@ use Rattle.tables_model.specs.Meaning.{tables_of, scope_table}
 use Rattle.tables_model.specs.Lookup.{index_of}
 use Rattle.tables_model.proofs.Reversed.{any-reverse}
 use Rattle.tables_model.proofs.Padded.{take-pad}
-use Rattle.tables_model.proofs.Looking.{any-map, both_ways}
+use Rattle.tables_model.proofs.Looking.{any-map}
 use Rattle.tables_model.proofs.ActiveVisits.{is-listed, is-bearing}
 use Rattle.tables_model.proofs.Reserve.{reserve-by}
 use Rattle.tables_model.proofs.Growing.{grows-by}
