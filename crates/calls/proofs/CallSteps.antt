@@ -10,10 +10,7 @@ use Rattle.book.specs.Pages.{page_at}
 use Rattle.tables_model.specs.declared.Whom.TheVariants.{One}
 use Rattle.tables_model.specs.declared.Tables.{Tables}
 use Rattle.tables_model.specs.Visits.{with_begun}
-use Rattle.tables_model.specs.Table.{scopes_handed}
 use Rattle.tables_model.specs.Rows.{Index, after_change, after_end}
-use Rattle.book.specs.Ledger.{only, every}
-use Rattle.book.specs.Scopes.{Scope}
 use Rattle.charts.specs.Moves.{charts_moved}
 use Rattle.journal.specs.Journal.{Journal, appended, forced, forced_up_to, Paged, paged}
 use Rattle.wal.specs.Writing.{Ram, row_count, is_running, written}
@@ -49,16 +46,6 @@ module _ (x : Core) where
       → assembled m x.charts i ≡ acted x (Call.change v c a)
   unfolding acted
   changes v c a m i p q = rw (p, q)
-
-  pub hands-over : (g r c : ℕ) (m : Ram) (ss : List Scope) → m ≡ written x.ram (Row.hand_over g r c) → ss ≡ scopes_handed x.tables.used g r (only c) x.scopes
-      → record { ram = m; charts = x.charts; tables = x.tables; scopes = ss } ≡ acted x (Call.hand_over g r c)
-  unfolding acted
-  hands-over g r c m ss p q = rw (p, q)
-
-  pub hands-over-all : (g r : ℕ) (m : Ram) (ss : List Scope) → m ≡ written x.ram (Row.hand_over_all g r) → ss ≡ scopes_handed x.tables.used g r every x.scopes
-      → record { ram = m; charts = x.charts; tables = x.tables; scopes = ss } ≡ acted x (Call.hand_over_all g r)
-  unfolding acted
-  hands-over-all g r m ss p q = rw (p, q)
 
   pub commits : (v : ℕ) (m : Ram) (i : Index) (j : Journal) → i ≡ after_end (index_in x) v → m ≡ written x.ram (Row.commit v) → j ≡ forced m.journal
       → assembled (record { journal = j; copy = m.copy }) x.charts i ≡ acted x (Call.commit v)

@@ -17,8 +17,6 @@ use Rattle.book.proofs.Lists.{and_l, and_r}
 use Rattle.tables_model.specs.declared.Counts.{Counts}
 use Rattle.tables_model.specs.declared.Tables.{Tables}
 use Rattle.tables_model.specs.Visits.{InRange, tables_in}
-use Rattle.state.specs.declared.ram.Phase.{Phase}
-use Rattle.state.specs.declared.ram.Phase.TheVariants.{Open}
 use Rattle.state.specs.declared.answers.Refusal.{Refusal}
 use Rattle.state.specs.declared.answers.Refusal.TheVariants.{WrongLength, CellOutOfRange, WrongBytes, BreaksRule, OverLimit, BadPage, Closed, VisitsUsedUp, TooManyActive, NoRoom, NotActive, NoSuchCell, ScopesUsedUp, SameVisit, HoldsNone, NoSuchPage}
 use Rattle.state.specs.Answers.{checked, refusal_answer}
@@ -53,16 +51,7 @@ coherent c t vs e =
 pub ready : (c : Control) (t : Counts) (vs : List ℕ) → is_open_phase c.phase && is_coherent c (tables_in t vs) ≡ true → Coherent c t
 ready c t vs e = coherent c t vs (and_r (is_open_phase c.phase) _ e)
 
--- the counters decide of an open store
-pub when-open : (p : Phase) (b : Bool) → p ≡ Open → b ≡ is_open_phase p && b
-when-open p b e = rw e
-
 -- ── The checks ────────────────────────────────────────────────────────────────────────────────────────────────────────
-
-first_two : (p q : Bool) (n : ℕ) → p && q ≡ false → refused_by 5 ≡ refused_by ((5, not p) else (5, not q) else n)
-first_two true true n e = let z : ◌≡◌ {A = ℕ} 0 1 = cc in absurd (omega arith)
-first_two true false n e = refl
-first_two false q n e = refl
 
 past_two : (p q : Bool) (n : ℕ) → p && q ≡ true → refused_by n ≡ refused_by ((5, not p) else (5, not q) else n)
 past_two true true n e = refl
@@ -73,10 +62,6 @@ module _ (c : Control) (t : Tables) (scopes : List Scope) (k : Call) where
   -- the call's own checks
   abbrev own : ℕ
   own = refusal_by (record { tables = t; scopes = scopes }) (c.stored + c.waiting) k
-
-  -- the store is closed, or its counters are beyond their limits
-  pub when-not-ready : is_open_phase c.phase && is_coherent c t ≡ false → refused_by 5 ≡ refused_by (number_by c t scopes k)
-  when-not-ready = first_two (is_open_phase c.phase) (is_coherent c t) own
 
   -- the call's own checks are left
   pub when-ready : is_open_phase c.phase && is_coherent c t ≡ true → refused_by own ≡ refused_by (number_by c t scopes k)
@@ -101,7 +86,7 @@ when-refused w k a zero e h = absurd (h refl)
 when-refused w k a (suc n) e h = rw e
 
 -- a refusal has a number
-numbered : (r : Refusal) → (refusal_answer r).number ≢ 0
+pub numbered : (r : Refusal) → (refusal_answer r).number ≢ 0
 numbered WrongLength z = absurd (omega arith)
 numbered (CellOutOfRange c) z = absurd (omega arith)
 numbered (WrongBytes n) z = absurd (omega arith)

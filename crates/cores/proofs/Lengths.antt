@@ -9,7 +9,8 @@ use borrow.Author.Tests.{eqb-true}
 use Rattle.book.specs.Limits.{scope_limit, log_length, charts_length}
 use Rattle.book.proofs.Lists.{and_l, and_r}
 use Rattle.tables_model.specs.declared.Scope.{Scope}
-use Rattle.state.specs.declared.answers.Answer.TheVariants.{WrongLength}
+use Rattle.std.specs.Prelude.{Err}
+use Rattle.state.specs.declared.answers.Refusal.TheVariants.{WrongLength}
 use Rattle.state.specs.declared.ram.State.{State}
 use Rattle.state.specs.World.{World, world, right_lengths}
 use Rattle.state.specs.CallContracts.{Returned, returned}
@@ -33,7 +34,7 @@ fit log charts copy n e =
 
 -- nothing is changed
 abbrev pub wrong_length : World → Returned
-wrong_length w = returned (record { state = w.state; answer = WrongLength; writes = record { rows = 0; pages = 0 } }) w.log w.charts w.copy w.scopes
+wrong_length w = returned (record { state = w.state; answer = Err WrongLength; writes = record { rows = 0; pages = 0 } }) w.log w.charts w.copy w.scopes
 
 module _ (P : World → Returned → Type 0) (s : State) (log charts copy : List ℕ) (n : ℕ) (t : List Scope) (long : length t ≡ scope_limit) where
   -- a table of n entries is lent

@@ -1,11 +1,13 @@
 -- The checks and the work of a call on flat copies of the tables, against its promise. Assumes nothing.
 use Prim.Native.Nat.{ℕ}
-use mathlib.Core.Path.{◌≡◌, refl, sym, subst}
+use mathlib.Core.Path.{◌≡◌, refl, ap, sym, subst, ◌∙◌}
 use mathlib.Core.Logic.{inr}
 use mathlib.Core.Bool.{false}
 use mathlib.Core.List.{List, map}
 use lib.ListN.{length}
 use borrow.Author.Tests.{eq-eqb}
+use Rattle.std.specs.Prelude.{Result}
+use Rattle.book.specs.Book.{refused_by}
 use Rattle.book.specs.Calls.{Call, Typed, returns}
 use Rattle.tables_model.specs.declared.Scope.{Scope}
 use Rattle.tables_model.specs.Entries.{scope_in}
@@ -13,7 +15,8 @@ use Rattle.tables_model.specs.Layout.{entries, actives}
 use Rattle.tables_model.specs.Visits.{tables_in}
 use Rattle.state.specs.declared.ram.State.{State}
 use Rattle.state.specs.declared.requests.Request.{Request}
-use Rattle.state.specs.Answers.{done_case, HasCase}
+use Rattle.state.specs.declared.answers.Refusal.{Refusal}
+use Rattle.state.specs.Answers.{done_case, HasCase, checked}
 use Rattle.state.specs.Requests.{call_of}
 use Rattle.state.specs.World.{World, world, right_lengths}
 use Rattle.state.specs.CallContracts.{Returned, answered_by, CallPost}
@@ -30,11 +33,17 @@ use Rattle.cores.proofs.Lengths.{wrong_length}
 module _ (s : State) (log charts copy : List ℕ) (table : List Scope) (visits flat : List ℕ) (k : Call)
     (places : actives visits ≡ s.tables.active) (scopes : entries flat ≡ map scope_in table) where
   -- the lengths are right: the number of every check is that of the others
-  pub right-number : LentLengths (length log) (length charts) (length copy) → length table ≡ 64
+  right-number : LentLengths (length log) (length charts) (length copy) → length table ≡ 64
       → number_by (control_in s) (tables_in (counts_in s.tables) visits) (entries flat) k ≡ number_of (world s log charts copy table) k
   unfolding number_of
   right-number lent long =
       rw (eq-eqb _ _ lent.log-long, eq-eqb _ _ lent.charts-long, eq-eqb _ _ lent.copy-long, eq-eqb _ _ long, places, scopes)
+
+  -- so what the others give is what all give
+  pub all-checked : (r : Result (Unit {0}) Refusal) → LentLengths (length log) (length charts) (length copy) → length table ≡ 64
+      → checked r ≡ refused_by (number_by (control_in s) (tables_in (counts_in s.tables) visits) (entries flat) k)
+      → checked r ≡ refused_by (number_of (world s log charts copy table) k)
+  all-checked r lent long e = e ∙ ap refused_by (right-number lent long)
 
   -- no check refuses
   pub when-accepted : (n : ℕ) → n ≡ 0

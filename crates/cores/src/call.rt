@@ -9,25 +9,26 @@ ghost use Rattle.state.specs.World.{world};
 ghost use Rattle.calls_model.specs.Perform.{performed, LentLengths};
 ghost use Rattle.cores.specs.Lent.{ByValue};
 
-use crate::accept::accept;
 use crate::crossing::{flat_into, visits_into};
 use crate::outs::{Out, out_after, out_with};
 use crate::ram::{control_in, counts_in};
+use calls::accept::accept;
 use calls::check::check;
 use journal::lengths::lengths_fit;
-use rows::limits::SCOPE_LIMIT;
-use state::answers::{Answer, number_of};
+use rows::limits::{CHARTS_LENGTH, SCOPE_LIMIT};
+use state::answers::Refusal;
 use state::ram::State;
 use state::requests::{Request, is_typed};
 use tables::layout::{FLAT_LENGTH, VISITS_LENGTH};
 use tables_model::Scope;
+use wal::ram::Ram;
 
 // The checks but that of the lengths, and the call. A refusal leaves state and table as they are.
 fn decide(
     state: State,
     log: &mut [u8],
     charts: &mut [u8],
-    copy: &mut [u8],
+    copy: &mut [u8; CHARTS_LENGTH],
     table: [Scope; SCOPE_LIMIT],
     request: Request,
 ) -> Out
@@ -36,31 +37,24 @@ fn decide(
         ≡ performed (world state log.old charts.old copy.old table) (call_of request))
         × HasCase (done_case (returns (call_of request))) result.result.answer }
 {
-    let tables = state.tables;
-    let active = tables.active;
-    let mut visits = [0u16; VISITS_LENGTH];
-    visits_into(active, &mut visits);
-    let mut flat = [0u16; FLAT_LENGTH];
-    flat_into(table, &mut flat);
+    let mut visits = [0; VISITS_LENGTH];
+    visits_into(state.tables.active, &mut visits);
+    let mut scopes = [0; FLAT_LENGTH];
+    flat_into(table, &mut scopes);
     let c = control_in(state);
-    let t = counts_in(tables);
-    let refusal = check(c, t, &visits, &flat, request);
-    if number_of(refusal) != 0 {
-        return out_with(refusal, state, table);
+    let t = counts_in(state.tables);
+    if let Err(refusal) = check(c, t, &visits, &scopes, request) {
+        return out_with(Err(refusal), state, table);
     }
     let mut tail = state.tail;
-    let o = accept(
-        c,
-        t,
-        &mut visits,
-        log,
-        charts,
+    let ram = Ram {
         copy,
-        &mut tail,
-        &mut flat,
-        request,
-    );
-    out_after(o, &visits, tail, &flat)
+        tail: &mut tail,
+        visits: &mut visits,
+        scopes: &mut scopes,
+    };
+    let o = accept(c, t, ram, log, charts, request);
+    out_after(o, &visits, tail, &scopes)
 }
 
 // The lent table has n entries: another number than 64 is a wrong length.
@@ -78,7 +72,10 @@ pub fn call_core(
 {
     is_typed(request);
     if !lengths_fit(log.len(), charts.len(), copy.len(), n) {
-        return out_with(Answer::WrongLength, state, t);
+        return out_with(Err(Refusal::WrongLength), state, t);
     }
+    let Some(copy) = copy.as_mut_array::<CHARTS_LENGTH>() else {
+        return out_with(Err(Refusal::WrongLength), state, t);
+    };
     decide(state, log, charts, copy, t, request)
 }

@@ -4,7 +4,6 @@ ghost use Rattle.tables_model.specs.Entries.{scope_in};
 ghost use Rattle.tables_model.specs.Layout.{flat_length, entries, visits_length, actives};
 ghost use Rattle.tables_model.specs.Meaning.{scope_of};
 
-use crate::entries::{blank, vacant_places};
 use rows::limits::{ACTIVE_LIMIT, SCOPE_LIMIT};
 use tables::entries::{entry_at, put_entry};
 use tables::visits::{active_at, put_active};
@@ -14,11 +13,8 @@ pub fn flat_into(t: [Scope; SCOPE_LIMIT], f: &mut [u16])
     requires { length f.old ≡ flat_length }
     ensures { entries f.new ≡ map scope_in t }
 {
-    let mut i: usize = 0;
-    while i < SCOPE_LIMIT {
-        let s = t[i];
-        put_entry(f, i, s);
-        i += 1;
+    for i in 0..SCOPE_LIMIT {
+        put_entry(f, i, t[i]);
     }
 }
 
@@ -26,12 +22,9 @@ pub fn table_from(f: &[u16]) -> [Scope; SCOPE_LIMIT]
     requires { length f.now ≡ flat_length }
     ensures { result ≡ map scope_of (entries f.now) }
 {
-    let mut t = blank();
-    let mut i: usize = 0;
-    while i < SCOPE_LIMIT {
-        let s = entry_at(f, i);
-        t[i] = s;
-        i += 1;
+    let mut t = [Scope::default(); SCOPE_LIMIT];
+    for i in 0..SCOPE_LIMIT {
+        t[i] = entry_at(f, i);
     }
     t
 }
@@ -40,11 +33,8 @@ pub fn visits_into(active: [Active; ACTIVE_LIMIT], f: &mut [u16])
     requires { length f.old ≡ visits_length }
     ensures { actives f.new ≡ active }
 {
-    let mut i: usize = 0;
-    while i < ACTIVE_LIMIT {
-        let a = active[i];
-        put_active(f, i, a);
-        i += 1;
+    for i in 0..ACTIVE_LIMIT {
+        put_active(f, i, active[i]);
     }
 }
 
@@ -52,12 +42,9 @@ pub fn visits_from(f: &[u16]) -> [Active; ACTIVE_LIMIT]
     requires { length f.now ≡ visits_length }
     ensures { result ≡ actives f.now }
 {
-    let mut active = vacant_places();
-    let mut i: usize = 0;
-    while i < ACTIVE_LIMIT {
-        let a = active_at(f, i);
-        active[i] = a;
-        i += 1;
+    let mut active = [Active::default(); ACTIVE_LIMIT];
+    for i in 0..ACTIVE_LIMIT {
+        active[i] = active_at(f, i);
     }
     active
 }

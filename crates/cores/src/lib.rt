@@ -2,10 +2,8 @@
 // lent table is in crate `store`.
 #![tactic(auto)]
 
-pub mod accept; // a request that no check refuses
 pub mod call; // the calls of an open store
 pub mod crossing; // the scope table and the visits between their structs and their flat forms
-pub mod entries; // blank tables
 pub mod opening; // format and open
 pub mod outs; // what the cores give back
 pub mod ram; // the state between its struct and what a call works on

@@ -1,21 +1,25 @@
 // Format and open: the lengths are checked first. They take nothing from state and scope table, and leave or clear them.
-ghost use Rattle.state.specs.CallContracts.{returned};
+ghost use Rattle.std.specs.Prelude.{◌≡◌, length};
+ghost use Rattle.book.specs.Limits.{log_length, charts_length};
+ghost use Rattle.recovery_model.specs.Openings.{no_index, checked_by};
+ghost use Rattle.recovery_model.specs.Scan.{scanned};
+ghost use Rattle.state.specs.Answers.{written, HasCase};
+ghost use Rattle.state.specs.CallContracts.{returned, answered_by};
 ghost use Rattle.state.specs.Functions.{Formats, Opens};
 ghost use Rattle.state.specs.World.{world};
 ghost use Rattle.cores.specs.Lent.{ByValue};
 
-use crate::entries::blank;
 use crate::outs::{Out, out_after, out_with};
 use crate::ram::closed_state;
 use journal::lengths::lengths_fit;
-use journal::writes::clear;
 use recovery::format::format;
 use recovery::open::open;
-use rows::limits::{SCOPE_LIMIT, TAIL_LENGTH};
-use state::answers::{Answer, number_of};
+use rows::limits::{CHARTS_LENGTH, SCOPE_LIMIT, TAIL_LENGTH};
+use state::answers::{Done, Refusal};
 use state::ram::{Fuse, State};
 use tables::layout::{FLAT_LENGTH, VISITS_LENGTH};
 use tables_model::Scope;
+use wal::ram::Ram;
 
 // A format that is done closes the store and clears RAM.
 pub fn format_core(
@@ -31,16 +35,36 @@ pub fn format_core(
         (returned result.result log.new charts.new copy.new) result.table }
 {
     if !lengths_fit(log.len(), charts.len(), copy.len(), n) {
-        return out_with(Answer::WrongLength, state, t);
+        return out_with(Err(Refusal::WrongLength), state, t);
     }
-    let answer = format(cells, log, charts);
-    if number_of(answer) != 0 {
-        return out_with(answer, state, t);
+    if let Err(refusal) = format(cells, log, charts) {
+        return out_with(Err(refusal), state, t);
     }
-    clear(copy);
-    let closed = closed_state();
-    let none = blank();
-    out_with(answer, closed, none)
+    copy.fill(0);
+    out_with(
+        Ok(Done::Nothing),
+        closed_state(),
+        [Scope::default(); SCOPE_LIMIT],
+    )
+}
+
+// An opening of a log and charts of their lengths, on flat tables and a tail of its own.
+fn opened(log: &mut [u8], charts: &[u8], copy: &mut [u8; CHARTS_LENGTH], fuse: Fuse) -> Out
+    requires { (length log.old ≡ log_length) × (length charts.now ≡ charts_length) }
+    ensures { (answered_by (returned result.result log.new charts.now copy.new result.table)
+        ≡ checked_by fuse log.old charts.now (scanned log.old no_index)) × HasCase written result.result.answer }
+{
+    let mut visits = [0; VISITS_LENGTH];
+    let mut scopes = [0; FLAT_LENGTH];
+    let mut tail = [0; TAIL_LENGTH];
+    let ram = Ram {
+        copy,
+        tail: &mut tail,
+        visits: &mut visits,
+        scopes: &mut scopes,
+    };
+    let o = open(fuse, log, charts, ram);
+    out_after(o, &visits, tail, &scopes)
 }
 
 pub fn open_core(
@@ -56,11 +80,10 @@ pub fn open_core(
         (returned result.result log.new charts.new copy.new) result.table }
 {
     if !lengths_fit(log.len(), charts.len(), copy.len(), n) {
-        return out_with(Answer::WrongLength, state, t);
+        return out_with(Err(Refusal::WrongLength), state, t);
     }
-    let mut visits = [0u16; VISITS_LENGTH];
-    let mut flat = [0u16; FLAT_LENGTH];
-    let mut tail = [0u8; TAIL_LENGTH];
-    let o = open(fuse, log, charts, copy, &mut tail, &mut visits, &mut flat);
-    out_after(o, &visits, tail, &flat)
+    let Some(copy) = copy.as_mut_array::<CHARTS_LENGTH>() else {
+        return out_with(Err(Refusal::WrongLength), state, t);
+    };
+    opened(log, charts, copy, fuse)
 }

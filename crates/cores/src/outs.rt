@@ -1,4 +1,4 @@
-// What the cores give back: the result, and the scope table. The struct is put together and taken apart by calls.
+// What the cores give back: the reply, and the scope table.
 ghost use Rattle.std.specs.Prelude.{◌≡◌, map, length};
 ghost use Rattle.tables_model.specs.Layout.{entries};
 ghost use Rattle.tables_model.specs.Meaning.{scope_of};
@@ -10,52 +10,27 @@ use crate::crossing::table_from;
 use crate::ram::state_after;
 use journal::Outcome;
 use rows::limits::{SCOPE_LIMIT, TAIL_LENGTH};
-use state::answers::{Answer, Result, no_writes};
+use state::answers::{Answer, Reply, Writes};
 use state::ram::State;
 use tables_model::Scope;
 
 #[derive(Clone, Copy)]
 pub struct Out {
-    pub result: Result,
+    pub result: Reply,
     pub table: [Scope; SCOPE_LIMIT],
-}
-
-pub fn out_of(r: Result, t: [Scope; SCOPE_LIMIT]) -> Out
-    ensures { result ≡ record { result = r; table = t } }
-{
-    Out {
-        result: r,
-        table: t,
-    }
-}
-
-pub fn result_of(o: Out) -> Result
-    ensures { result ≡ o.result }
-{
-    let r = o.result;
-    r
-}
-
-pub fn table_of(o: Out) -> [Scope; SCOPE_LIMIT]
-    ensures { result ≡ o.table }
-{
-    let t = o.table;
-    t
 }
 
 // This answer, state and table; nothing was stored.
 pub(crate) fn out_with(answer: Answer, state: State, table: [Scope; SCOPE_LIMIT]) -> Out
     ensures { result ≡ record { result = record { state = state; answer = answer; writes = record { rows = 0; pages = 0 } }; table = table } }
 {
-    let none = no_writes();
-    Out {
-        result: Result {
-            state: state,
-            answer: answer,
-            writes: none,
-        },
-        table: table,
-    }
+    let writes = Writes::default();
+    let result = Reply {
+        state,
+        answer,
+        writes,
+    };
+    Out { result, table }
 }
 
 // What a call on the flat tables and a tail came to.
@@ -66,16 +41,13 @@ pub(crate) fn out_after(o: Outcome, visits: &[u16], tail: [u8; TAIL_LENGTH], fla
       table = map scope_of (entries flat.now);
     } }
 {
-    let state = state_after(o, visits, tail);
-    let table = table_from(flat);
-    let answer = o.answer;
-    let writes = o.writes;
+    let result = Reply {
+        state: state_after(o, visits, tail),
+        answer: o.answer,
+        writes: o.writes,
+    };
     Out {
-        result: Result {
-            state: state,
-            answer: answer,
-            writes: writes,
-        },
-        table: table,
+        result,
+        table: table_from(flat),
     }
 }

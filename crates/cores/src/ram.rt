@@ -8,21 +8,18 @@ ghost use Rattle.calls_model.specs.Perform.{control_in};
 ghost use Rattle.cores.specs.Lent.{counts_in};
 
 use crate::crossing::visits_from;
-use crate::entries::vacant_places;
 use journal::{Control, Outcome};
-use rows::limits::TAIL_LENGTH;
+use rows::limits::{ACTIVE_LIMIT, TAIL_LENGTH};
 use state::ram::{Fuse, Phase, State};
-use tables_model::{Counts, Tables};
+use tables_model::{Active, Counts, Tables};
 
 // Where the journal stands.
 pub fn control_in(s: State) -> Control
     ensures { result ≡ control_in s }
 {
-    let phase = s.phase;
-    let fuse = s.fuse;
     Control {
-        phase: phase,
-        fuse: fuse,
+        phase: s.phase,
+        fuse: s.fuse,
         stored: s.stored,
         waiting: s.waiting,
     }
@@ -44,24 +41,21 @@ pub fn state_after(o: Outcome, visits: &[u16], tail: [u8; TAIL_LENGTH]) -> State
     requires { length visits.now ≡ visits_length }
     ensures { result ≡ state_after o.control (tables_in o.counts visits.now) tail }
 {
-    let active = visits_from(visits);
     let c = o.control;
     let t = o.counts;
-    let phase = c.phase;
-    let fuse = c.fuse;
     let tables = Tables {
         begun: t.begun,
-        active: active,
+        active: visits_from(visits),
         count: t.count,
         used: t.used,
     };
     State {
-        phase: phase,
-        fuse: fuse,
+        phase: c.phase,
+        fuse: c.fuse,
         stored: c.stored,
         waiting: c.waiting,
-        tables: tables,
-        tail: tail,
+        tables,
+        tail,
     }
 }
 
@@ -69,20 +63,18 @@ pub fn state_after(o: Outcome, visits: &[u16], tail: [u8; TAIL_LENGTH]) -> State
 pub fn closed_state() -> State
     ensures { result ≡ closed_state }
 {
-    let active = vacant_places();
     let tables = Tables {
         begun: 0,
-        active: active,
+        active: [Active::default(); ACTIVE_LIMIT],
         count: 0,
         used: 0,
     };
-    let tail = [0; TAIL_LENGTH];
     State {
         phase: Phase::Closed,
         fuse: Fuse::Unlimited,
         stored: 0,
         waiting: 0,
-        tables: tables,
-        tail: tail,
+        tables,
+        tail: [0; TAIL_LENGTH],
     }
 }

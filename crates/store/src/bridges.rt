@@ -4,7 +4,7 @@ ghost use Rattle.state.specs.Functions.{Formats, Opens, Calls};
 ghost use Rattle.state.specs.World.{world};
 
 use crate::public::{call, format, open};
-use cores::outs::{Out, out_of};
+use cores::outs::Out;
 use rows::limits::SCOPE_LIMIT;
 use state::ram::{Fuse, State};
 use state::requests::Request;
@@ -21,9 +21,9 @@ pub fn format_on(
     ensures { Formats cells.now (world state log.old charts.old copy.old table)
         (returned result.result log.new charts.new copy.new result.table) }
 {
-    let mut scopes = table;
-    let r = format(state, log, charts, copy, &mut scopes, cells);
-    out_of(r, scopes)
+    let mut table = table;
+    let result = format(state, log, charts, copy, &mut table, cells);
+    Out { result, table }
 }
 
 pub fn open_on(
@@ -37,9 +37,9 @@ pub fn open_on(
     ensures { Opens fuse (world state log.old charts.old copy.old table)
         (returned result.result log.new charts.new copy.new result.table) }
 {
-    let mut scopes = table;
-    let r = open(state, log, charts, copy, &mut scopes, fuse);
-    out_of(r, scopes)
+    let mut table = table;
+    let result = open(state, log, charts, copy, &mut table, fuse);
+    Out { result, table }
 }
 
 pub fn call_on(
@@ -53,7 +53,7 @@ pub fn call_on(
     ensures { Calls request (world state log.old charts.old copy.old table)
         (returned result.result log.new charts.new copy.new result.table) }
 {
-    let mut scopes = table;
-    let r = call(state, log, charts, copy, &mut scopes, request);
-    out_of(r, scopes)
+    let mut table = table;
+    let result = call(state, log, charts, copy, &mut table, request);
+    Out { result, table }
 }

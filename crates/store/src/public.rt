@@ -1,4 +1,4 @@
-// The public calls: a store is formatted, opened, and then asked. They have the same text but for names and the last parameter.
+// The public calls: a store is formatted, opened, and then asked. Each loads the lent table, has its core work on that, and stores it again.
 ghost use Rattle.state.specs.CallContracts.{returned};
 ghost use Rattle.state.specs.Functions.{Formats, Opens, Calls};
 ghost use Rattle.state.specs.World.{world};
@@ -6,8 +6,7 @@ ghost use Rattle.state.specs.World.{world};
 use crate::table::{load, store};
 use cores::call::call_core;
 use cores::opening::{format_core, open_core};
-use cores::outs::{result_of, table_of};
-use state::answers::Result;
+use state::answers::Reply;
 use state::ram::{Fuse, State};
 use state::requests::Request;
 use tables_model::Scope;
@@ -19,15 +18,13 @@ pub fn format(
     copy: &mut [u8],
     scopes: &mut [Scope],
     cells: &[i32],
-) -> Result
+) -> Reply
     ensures { Formats cells.now (world state log.old charts.old copy.old scopes.old)
         (returned result log.new charts.new copy.new scopes.new) }
 {
-    let n = scopes.len();
-    let t = load(scopes);
-    let o = format_core(state, log, charts, copy, n, t, cells);
-    store(scopes, table_of(o));
-    result_of(o)
+    let o = format_core(state, log, charts, copy, scopes.len(), load(scopes), cells);
+    store(scopes, o.table);
+    o.result
 }
 
 pub fn open(
@@ -37,15 +34,13 @@ pub fn open(
     copy: &mut [u8],
     scopes: &mut [Scope],
     fuse: Fuse,
-) -> Result
+) -> Reply
     ensures { Opens fuse (world state log.old charts.old copy.old scopes.old)
         (returned result log.new charts.new copy.new scopes.new) }
 {
-    let n = scopes.len();
-    let t = load(scopes);
-    let o = open_core(state, log, charts, copy, n, t, fuse);
-    store(scopes, table_of(o));
-    result_of(o)
+    let o = open_core(state, log, charts, copy, scopes.len(), load(scopes), fuse);
+    store(scopes, o.table);
+    o.result
 }
 
 pub fn call(
@@ -55,13 +50,19 @@ pub fn call(
     copy: &mut [u8],
     scopes: &mut [Scope],
     request: Request,
-) -> Result
+) -> Reply
     ensures { Calls request (world state log.old charts.old copy.old scopes.old)
         (returned result log.new charts.new copy.new scopes.new) }
 {
-    let n = scopes.len();
-    let t = load(scopes);
-    let o = call_core(state, log, charts, copy, n, t, request);
-    store(scopes, table_of(o));
-    result_of(o)
+    let o = call_core(
+        state,
+        log,
+        charts,
+        copy,
+        scopes.len(),
+        load(scopes),
+        request,
+    );
+    store(scopes, o.table);
+    o.result
 }

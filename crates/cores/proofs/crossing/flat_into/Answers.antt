@@ -1,5 +1,5 @@
 -- `cores::crossing::flat_into` meets its contract. Assumes nothing.
-use Prim.Native.Nat.{◌-◌, ◌<◌}
+use Prim.Native.Nat.{◌<◌}
 use mathlib.Core.Path.{◌≡◌, ◌∙◌}
 use native.Mathlib.Omega.{arith}
 use lib.ListN.{length}
@@ -17,13 +17,13 @@ loop-i-preserved c =
     let long : length c.args.t ≡ 64 = search rules in
     let l = c.loop-i in
     let p = c.put_entry in
-    let below : l.i < 64 = c.loop-i-test.true in
+    let below : l.i < 64 = omega arith in
     let h : l.i < length c.args.t = omega (arith, long) in
     let k : l.i < length (entries l.f) = rw entries-length below in
-    (omega arith, p.auto.t ∙ l.invariant.1, rw p.ensures (crossed-next scope_in c.args.t (entries l.f) l.i l.invariant.2 (scope_of unused) h k))
+    (p.auto.t ∙ l.invariant.0, rw p.ensures (crossed-next scope_in c.args.t (entries l.f) l.i l.invariant.1 (scope_of unused) h k))
 
 pub returns : goal.returns
 returns c =
     let long : length c.args.t ≡ 64 = search rules in
     let l = c.loop-i in
-    crossed-all scope_in c.args.t (entries l.f) l.i l.invariant.2 (omega (arith, long)) (rw entries-length (omega arith))
+    crossed-all scope_in c.args.t (entries l.f) l.i l.invariant.1 (omega (arith, long)) (rw entries-length (omega arith))

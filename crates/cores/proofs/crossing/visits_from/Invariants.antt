@@ -1,5 +1,4 @@
 -- `cores::crossing::visits_from` meets its contract. Assumes nothing.
-use Prim.Native.Nat.{◌-◌, ◌≤◌}
 use mathlib.Core.Path.{◌≡◌}
 use mathlib.Core.List.{map}
 use lib.ListN.{length, take}
@@ -7,7 +6,4 @@ use Rattle.tables_model.specs.Layout.{actives}
 use Rattle.cores.proofs.crossing.visits_from.Given as goal
 
 abbrev pub invariant-loop-i : goal.invariant-loop-i
-invariant-loop-i l = (l.i ≤ 16) × (length l.active ≡ 16) × (take l.i l.active ≡ map (λ a. a) (take l.i (actives l.f)))
-
-abbrev pub decreases-loop-i : goal.decreases-loop-i
-decreases-loop-i l = 16 - l.i
+invariant-loop-i l = (length l.active ≡ 16) × (take l.i l.active ≡ map (λ a. a) (take l.i (actives l.f)))

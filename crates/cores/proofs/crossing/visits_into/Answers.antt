@@ -1,5 +1,5 @@
 -- `cores::crossing::visits_into` meets its contract. Assumes nothing.
-use Prim.Native.Nat.{◌-◌, ◌<◌}
+use Prim.Native.Nat.{◌<◌}
 use mathlib.Core.Path.{◌≡◌, ◌∙◌}
 use mathlib.Core.List.{map-id}
 use native.Mathlib.Omega.{arith}
@@ -16,13 +16,13 @@ loop-i-preserved c =
     let long : length c.args.active ≡ 16 = search rules in
     let l = c.loop-i in
     let p = c.put_active in
-    let below : l.i < 16 = c.loop-i-test.true in
+    let below : l.i < 16 = omega arith in
     let h : l.i < length c.args.active = omega (arith, long) in
     let k : l.i < length (actives l.f) = rw actives-length below in
-    (omega arith, p.auto.visits ∙ l.invariant.1, rw p.ensures (crossed-next (λ a. a) c.args.active (actives l.f) l.i l.invariant.2 vacant h k))
+    (p.auto.visits ∙ l.invariant.0, rw p.ensures (crossed-next (λ a. a) c.args.active (actives l.f) l.i l.invariant.1 vacant h k))
 
 pub returns : goal.returns
 returns c =
     let long : length c.args.active ≡ 16 = search rules in
     let l = c.loop-i in
-    crossed-all (λ a. a) c.args.active (actives l.f) l.i l.invariant.2 (omega (arith, long)) (rw actives-length (omega arith)) ∙ map-id c.args.active
+    crossed-all (λ a. a) c.args.active (actives l.f) l.i l.invariant.1 (omega (arith, long)) (rw actives-length (omega arith)) ∙ map-id c.args.active
