@@ -1,14 +1,17 @@
 -- What format leaves: the pages that it builds are the book's pages of no rows, and the zeros of the log are its bytes of no rows. Assumes nothing.
-use Rattle.std.proofs.Common.{◌≡◌, ℕ, ◌*◌, ◌<◌, ◌≤◌, List, [], ◌++◌, length, take, drop, replicate, ℤ, pos, Ok, sym, ap, ◌∙◌, arith, get_or-drop, get_or-take, le-ltb, eq-eqb}
+use Rattle.std.proofs.Common.{◌≡◌, ℕ, ◌*◌, ◌<◌, ◌≤◌, List, [], ◌++◌, length, take, drop, replicate, ℤ, pos, not, position, Some, None, Ok, sym, ap, ◌∙◌, arith, get_or-drop, get_or-take, le-ltb, eq-eqb}
 use lib.IntN.{+ℤ_idr}
 use Rattle.book.specs.Lists.{tabulate, join}
-use Rattle.book.specs.Numbers.{le, bits_of}
+use Rattle.book.specs.Limits.{format_bound}
+use Rattle.book.specs.Numbers.{le, bits_of, within}
 use Rattle.book.specs.Pages.{page_bytes, chart_bytes, page_after}
 use Rattle.book.proofs.Blocks.{tabulate-same}
 use Rattle.book.specs.LogBytes.{log_bytes}
 use Rattle.charts.specs.Build.{from_cells}
 use Rattle.state.specs.CallContracts.{bad_cell, cells_of}
+use Rattle.recovery_model.specs.Charts.{below}
 use Rattle.recovery_model.specs.Answering.{formatted_as, format_bytes}
+use Rattle.recovery.proofs.Searches.{below-Some, below-None, first-position}
 
 -- page p of the values
 abbrev pub page_of_cells : List ℤ → ℕ → List ℕ
@@ -29,6 +32,19 @@ pub charts-same : (cells : List ℤ) → join (tabulate 32 0 (page_of_cells cell
 unfolding chart_bytes
 charts-same cells =
     ap join (tabulate-same 32 0 (page_of_cells cells) (λ p. page_bytes (page_after (cells_of cells) [] p)) (λ p a b. page-same cells p))
+
+-- ── A cell out of range ───────────────────────────────────────────────────────────────────────────────────────────────
+
+module _ (cells : List ℤ) (long : length cells ≡ 224) where
+  -- the search over the cells, by the book's number
+  searched : position (λ z. not (within format_bound z)) cells ≡ below 224 (bad_cell cells)
+  searched = first-position (within format_bound) (pos 0) 224 cells long
+
+  pub cell-found : (i : ℕ) → Some i ≡ position (λ z. not (within format_bound z)) cells → (bad_cell cells < 224) × (bad_cell cells ≡ i)
+  cell-found i e = below-Some 224 (bad_cell cells) i (sym (e ∙ searched))
+
+  pub no-cell-found : None ≡ position (λ z. not (within format_bound z)) cells → 224 ≤ bad_cell cells
+  no-cell-found e = below-None 224 (bad_cell cells) (sym (e ∙ searched))
 
 -- ── What format leaves ────────────────────────────────────────────────────────────────────────────────────────────────
 

@@ -1,10 +1,7 @@
 -- `recovery::format::format` meets its contract. Assumes nothing.
-use Rattle.std.proofs.Common.{◌∙◌, pos, sym, lt-ltb, eq-eqb, ne_eqb, arith}
-use Rattle.book.specs.Numbers.{within}
-use Rattle.book.specs.Limits.{format_bound}
+use Rattle.std.proofs.Common.{sym, lt-ltb, eq-eqb, ne_eqb, arith}
 use Rattle.recovery_model.specs.Answering.{format_bytes}
-use Rattle.recovery.proofs.FormatPages.{no_rows, formatted-done}
-use Rattle.recovery.proofs.Searches.{below-Some, below-None, first-position}
+use Rattle.recovery.proofs.FormatPages.{cell-found, no-cell-found, no_rows, formatted-done}
 use Rattle.recovery.proofs.format.format.Goals as goal
 
 pub returns-then-cells-ne-CELL_LIMIT : goal.returns-then-cells-ne-CELL_LIMIT
@@ -13,16 +10,15 @@ returns-then-cells-ne-CELL_LIMIT c = rw (ne_eqb _ _ c.if-cells-ne-CELL_LIMIT.tru
 
 pub overflow_cast-result : goal.overflow_cast-result
 overflow_cast-result c =
-    let k = below-Some 224 _ c.in-Some.c (sym (c.in-Some.ensures ∙ first-position (within format_bound) (pos 0) 224 c.args.cells.now c.if-cells-ne-CELL_LIMIT.false)) in
-    omega (arith, k.0, k.1)
+    let k = cell-found _ c.if-cells-ne-CELL_LIMIT.false c.in-Some.c c.in-Some.ensures in omega (arith, k.0, k.1)
 
 pub returns-in-Some : goal.returns-in-Some
 unfolding format_bytes
 returns-in-Some c =
-    let k = below-Some 224 _ c.in-Some.c (sym (c.in-Some.ensures ∙ first-position (within format_bound) (pos 0) 224 c.args.cells.now c.if-cells-ne-CELL_LIMIT.false)) in
+    let k = cell-found _ c.if-cells-ne-CELL_LIMIT.false c.in-Some.c c.in-Some.ensures in
     rw (eq-eqb _ _ c.if-cells-ne-CELL_LIMIT.false, lt-ltb _ _ k.0, k.1)
 
 pub returns : goal.returns
 returns c =
-    let none = below-None 224 _ (sym (c.in_default.ensures ∙ first-position (within format_bound) (pos 0) 224 c.args.cells.now c.if-cells-ne-CELL_LIMIT.false)) in
-    rw (no_rows _ _ (c.fill.ensures.after (λ y e. e)) c.requires.0, c.build_charts.ensures) (sym (formatted-done _ _ _ c.if-cells-ne-CELL_LIMIT.false none))
+    let long = c.if-cells-ne-CELL_LIMIT.false in
+    rw (no_rows _ _ (c.fill.ensures.after (λ y e. e)) c.requires.0, c.build_charts.ensures) (sym (formatted-done _ _ _ long (no-cell-found _ long c.in_default.ensures)))

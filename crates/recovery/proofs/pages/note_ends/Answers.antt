@@ -27,7 +27,7 @@ loop-k-init c =
 pub loop-k-preserved : goal.loop-k-preserved
 loop-k-preserved c =
     let below : c.from-p.result / 7 < length c.loop-k.ends = let l = c.loop-k in
-    let byte = c.shared_slice_known-in-loop-k-1.given (16 * l.k + 3) in
+    let byte = c.type_inv.log (16 * l.k + 3) in
     let e = c.from-p.ensures in
     let long = l.invariant.0 in
     omega arith in
