@@ -1,5 +1,5 @@
 -- The turns of the loops that check a log. Assumes nothing.
-use Rattle.std.proofs.Common.{◌≡◌, ℕ, suc, ◌+◌, ◌-◌, ◌<◌, ◌≤◌, true, false, Option, Some, None, is_some, Result, Ok, Err, List, sym, refl, subst, add-one, arith, ap}
+use Rattle.std.proofs.Common.{◌≡◌, ℕ, suc, ◌+◌, ◌-◌, ◌<◌, ◌≤◌, true, false, Option, Some, None, is_some, Result, Ok, Err, List, refl, add-one, arith, ap}
 use Rattle.std.specs.Option.{option_or}
 use Rattle.book.specs.Rows as book
 use Rattle.rows.specs.Reading.{is_blank, read_of}

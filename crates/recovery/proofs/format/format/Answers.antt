@@ -1,5 +1,5 @@
 -- `recovery::format::format` meets its contract. Assumes nothing.
-use Rattle.std.proofs.Common.{sym, lt-ltb, eq-eqb, ne_eqb, arith}
+use Rattle.std.proofs.Common.{sym, lt-ltb, eq-eqb, ne_eqb}
 use Rattle.recovery_model.specs.Answering.{format_bytes}
 use Rattle.recovery.proofs.FormatPages.{cell-found, no-cell-found, no_rows, formatted-done}
 use Rattle.recovery.proofs.format.format.Goals as goal
@@ -7,10 +7,6 @@ use Rattle.recovery.proofs.format.format.Goals as goal
 pub returns-then-cells-ne-CELL_LIMIT : goal.returns-then-cells-ne-CELL_LIMIT
 unfolding format_bytes
 returns-then-cells-ne-CELL_LIMIT c = rw (ne_eqb _ _ c.if-cells-ne-CELL_LIMIT.true)
-
-pub overflow_cast-result : goal.overflow_cast-result
-overflow_cast-result c =
-    let k = cell-found _ c.if-cells-ne-CELL_LIMIT.false c.in-Some.c c.in-Some.ensures in omega (arith, k.0, k.1)
 
 pub returns-in-Some : goal.returns-in-Some
 unfolding format_bytes

@@ -1,5 +1,5 @@
 -- `recovery::page_alone::redo_page_alone` meets its contract. Assumes nothing.
-use Rattle.std.proofs.Common.{◌≡◌, ℕ, true, ◌&&◌, eqb, List, length, pos, sym, ap, ◌∙◌, arith, rules, le-ltb, eq-eqb, eqb-true}
+use Rattle.std.proofs.Common.{◌≡◌, ℕ, true, ◌&&◌, eqb, List, pos, sym, ap, ◌∙◌, arith, rules, le-ltb, eqb-true}
 use Rattle.book.specs.Book.{done}
 use Rattle.book.specs.Limits.{log_length, page_length}
 use Rattle.book.proofs.Lists.{and_l, and_r}

@@ -1,13 +1,10 @@
 -- `recovery::pages::mark_ok` meets its contract. Assumes nothing.
-use Rattle.std.proofs.Common.{ap, ◌∙◌, eq-eqb, ne_eqb}
+use Rattle.std.proofs.Common.{ap, ◌∙◌, ne_eqb}
 use Rattle.book.specs.Cells.{touches}
 use Rattle.recovery_model.specs.Scan.{row_in}
 use Rattle.recovery.proofs.LookUps.{row-of-log}
 use Rattle.recovery.proofs.PageTurns.{effect-coded}
 use Rattle.recovery.proofs.pages.mark_ok.Goals as goal
-
-pub returns-then-mark-eq0 : goal.returns-then-mark-eq0
-returns-then-mark-eq0 c = rw (eq-eqb _ _ c.if-mark-eq0.true)
 
 pub returns : goal.returns
 returns c =
