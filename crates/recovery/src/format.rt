@@ -14,6 +14,7 @@ use state::answers::Refusal;
 // A cell is formatted within plus and minus so many grams.
 const FORMAT_BOUND: i32 = 1_000_000;
 
+// A number of grams within that bound.
 fn is_format(z: i32) -> bool
     ensures { result ≡ within format_bound z }
 {

@@ -135,7 +135,7 @@ fn open_scanned(
     ram.clear(Err(refusal), Writes::default())
 }
 
-// Nothing is taken from what the arrays of RAM had.
+// Nothing is taken from what the arrays of RAM had. They go on one by one, since the functions below are lent two and more of them at once.
 pub fn open(fuse: Fuse, log: &mut [u8], charts: &[u8], ram: Ram) -> Outcome
     requires { (length log.old ≡ log_length) × (length charts.now ≡ charts_length) }
     ensures { let a = left ram.exit in

@@ -23,7 +23,7 @@ use wal::look::row_of_part;
 const CELLS_OF_PAGE: u8 = PLACES as u8;
 
 // The pages that the byte of a row's cell can name.
-const NAMED_PAGES: usize = 37;
+const NAMED_PAGES: usize = u8::MAX as usize / PLACES + 1;
 
 // ── The check ─────────────────────────────────────────────────────────────────────────────────────────────────────────
 

@@ -18,7 +18,7 @@ use tables::rules::judge;
 use tables::steps::step;
 use tables_model::Counts;
 
-// A row that the rules allow is applied to the tables.
+// A row that the rules allow is applied to the tables, and does not end the log.
 fn take_row(
     log: &[u8],
     k: usize,
