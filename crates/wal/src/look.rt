@@ -6,7 +6,7 @@ ghost use Rattle.journal.specs.Force.{Sizes};
 ghost use Rattle.journal.specs.Journal.{journal};
 ghost use Rattle.rows.specs.Meaning.{coded};
 ghost use Rattle.tables_model.specs.Entries.{scope_in};
-ghost use Rattle.tables_model.specs.Lookup.{is_change_by, previous, before_last};
+ghost use Rattle.tables_model.specs.Lookup.{is_change_by, before_last};
 ghost use Rattle.wal.specs.Looking.{row_of_part, look_up, row_or_0, Part};
 
 use journal::Control;
@@ -55,39 +55,22 @@ fn is_change_by(b: &[u8], maker: Visit, cell: Cell) -> bool
     b[3] == cell.0 && is_made_by(b, maker) && b[0] == 2
 }
 
-// The highest row of a part below `last` and not below `first` that is a change of the cell by the maker. No other row is looked at: the search, downwards,
-// begins and stops within the part, and counts in 32 bits, as the loops of `tables` do.
-fn change_before(
-    b: &[u8],
-    base: usize,
-    rows: usize,
-    first: Lsn,
-    last: Lsn,
-    maker: Visit,
-    cell: Cell,
-) -> Option<Lsn>
-    requires { Part (length b.now) base rows }
-    ensures { (row_or_0 result ≡ previous (row_of_part b.now base rows) maker.0 cell.0 first.0 last.0)
-        × (row_or_0 result ≤ last.0) × IfSome result (λ n. 1 ≤ n.0) }
-{
-    let lowest = u32::from(first.0).max(base as u32 + 1);
-    let above = u32::from(last.0).min((base + rows) as u32 + 1);
-    for n in (lowest..above).rev() {
-        let at = ROW_LENGTH * (n as usize - base - 1);
-        if is_change_by(&b[at..at + ROW_LENGTH], maker, cell) {
-            return Some(Lsn(n as u16));
-        }
-    }
-    None
-}
-
-// The change before the scope's last one in a part of the journal.
+// The change before the scope's last one in a part of the journal: the highest row below `last` and not below `first` that is a change of the cell by the maker.
+// No other row is looked at: the search, downwards, begins and stops within the part, and counts in 32 bits, as the loops of `tables` do.
 pub fn before_last_in(b: &[u8], base: usize, rows: usize, s: Scope) -> Option<Lsn>
     requires { Part (length b.now) base rows }
     ensures { (row_or_0 result ≡ before_last (row_of_part b.now base rows) (scope_in s))
         × (row_or_0 result ≤ s.last.0) × IfSome result (λ n. 1 ≤ n.0) }
 {
-    change_before(b, base, rows, s.first, s.last, s.maker, s.cell)
+    let lowest = u32::from(s.first.0).max(base as u32 + 1);
+    let above = u32::from(s.last.0).min((base + rows) as u32 + 1);
+    for n in (lowest..above).rev() {
+        let at = ROW_LENGTH * (n as usize - base - 1);
+        if is_change_by(&b[at..at + ROW_LENGTH], s.maker, s.cell) {
+            return Some(Lsn(n as u16));
+        }
+    }
+    None
 }
 
 // The change before the scope's last one: it waits in the tail, or else stands in the log.

@@ -7,5 +7,5 @@ use Rattle.wal.specs.TakeBack.{taking, fall_all}
 use Rattle.wal.proofs.take_back.take_back.Given as goal
 
 abbrev pub invariant-loop-n : goal.invariant-loop-n
-invariant-loop-n l = Fits l.d (length l.log) (length l.tail) (length l.copy) × (length l.scopes ≡ 448)
+invariant-loop-n l = Fits l.d (length l.log) (length l.tail) (length l.copy)
     × (fall_all l.most l.w l.used (taking l.initial.d l.initial.log l.initial.tail l.initial.copy l.initial.scopes) ≡ fall_all (l.most - l._n) l.w l.used (taking l.d l.log l.tail l.copy l.scopes))
