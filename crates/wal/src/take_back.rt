@@ -76,7 +76,7 @@ pub fn take_back(
 {
     let most = c.stored + c.waiting;
     let mut d = c;
-    for _n in 0..most {
+    for _ in 0..most {
         let Some(i) = next_to_fall(d, scopes, used, w) else {
             return d;
         };

@@ -8,19 +8,19 @@ use Rattle.wal.proofs.take_back.take_back.Goals as goal
 pub returns-in_default : goal.returns-in_default
 unfolding next_to_fall
 returns-in_default c =
-    let l = c.loop-n in
-    sym (l.invariant.1 ∙ turns-stop _ _ _ _ _ c.loop-n-test.true (sym c.next_to_fall.ensures.0 ∙ c.in_default.is))
+    let l = c.loop in
+    sym (l.invariant.1 ∙ turns-stop _ _ _ _ _ c.loop-test.true (sym c.next_to_fall.ensures.0 ∙ c.in_default.is))
 
-pub loop-n-preserved : goal.loop-n-preserved
+pub loop-preserved : goal.loop-preserved
 unfolding next_to_fall
-loop-n-preserved c =
-    let l = c.loop-n in
+loop-preserved c =
+    let l = c.loop in
     let f = c.fall-d in
-    let e = l.invariant.1 ∙ turn _ _ _ _ _ c.loop-n-test.true _ (sym c.next_to_fall.ensures.0 ∙ c.in-Some.is) in
+    let e = l.invariant.1 ∙ turn _ _ _ _ _ c.loop-test.true _ (sym c.next_to_fall.ensures.0 ∙ c.in-Some.is) in
     let n = rw (← f.ensures) at (counters-fallen c.in-Some.i (taking l.d l.log l.tail l.copy l.scopes) (counters l.invariant.0)) in
     (fits-again l.invariant.0 n f.auto.log f.auto.tail f.auto.copy, rw f.ensures e)
 
 pub returns : goal.returns
 returns c =
-    let l = c.loop-n in
-    sym (l.invariant.1 ∙ turns-end _ _ _ _ _ c.loop-n-test.false)
+    let l = c.loop in
+    sym (l.invariant.1 ∙ turns-end _ _ _ _ _ c.loop-test.false)
