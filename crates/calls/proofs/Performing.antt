@@ -4,7 +4,7 @@ use mathlib.Core.Path.{◌≡◌, refl, ap, sym, ◌∙◌}
 use mathlib.Core.Logic.{◌≢◌}
 use Rattle.std.specs.Prelude.{Ok}
 use mathlib.Core.Bool.{Bool, true, false, not, ◌&&◌}
-use mathlib.Core.List.{List}
+use mathlib.Core.List.{List, []}
 use lib.Dec.{leb}
 use native.Mathlib.Omega.{arith}
 use borrow.Author.Tests.{leb-true, not-false}
@@ -15,7 +15,7 @@ use Rattle.book.specs.Book.{Answer, ◌else◌, refused_by}
 use Rattle.book.proofs.Adds.{passes}
 use Rattle.book.proofs.Lists.{and_l, and_r}
 use Rattle.tables_model.specs.declared.Counts.{Counts}
-use Rattle.tables_model.specs.declared.Tables.{Tables}
+use Rattle.tables_model.specs.Rows.{Ready}
 use Rattle.tables_model.specs.Visits.{InRange, tables_in}
 use Rattle.state.specs.declared.answers.Refusal.{Refusal}
 use Rattle.state.specs.declared.answers.Refusal.TheVariants.{WrongLength, CellOutOfRange, WrongBytes, BreaksRule, OverLimit, BadPage, Closed, VisitsUsedUp, TooManyActive, NoRoom, NotActive, NoSuchCell, ScopesUsedUp, SameVisit, HoldsNone, NoSuchPage}
@@ -24,7 +24,7 @@ use Rattle.state.specs.World.{World, is_open_phase}
 use Rattle.state.specs.CallContracts.{Answered}
 use Rattle.journal.specs.declared.Control.{Control}
 use Rattle.calls_model.specs.Refusals.{refusal_by}
-use Rattle.calls_model.specs.Perform.{is_coherent, decided, number_by}
+use Rattle.calls_model.specs.Perform.{is_coherent, decided, number_by, Flat}
 
 -- ── The counters ──────────────────────────────────────────────────────────────────────────────────────────────────────
 
@@ -47,25 +47,29 @@ coherent c t vs e =
       range = record { count = leb-true _ _ (and_r (p && q) r three); used = leb-true _ _ (and_r (p && q && r) _ e) };
     }
 
--- the store is open, and its counters are within their limits
-pub ready : (c : Control) (t : Counts) (vs : List ℕ) → is_open_phase c.phase && is_coherent c (tables_in t vs) ≡ true → Coherent c t
-ready c t vs e = coherent c t vs (and_r (is_open_phase c.phase) _ e)
-
--- ── The checks ────────────────────────────────────────────────────────────────────────────────────────────────────────
-
 past_two : (p q : Bool) (n : ℕ) → p && q ≡ true → refused_by n ≡ refused_by ((5, not p) else (5, not q) else n)
 past_two true true n e = refl
 past_two true false n e = let z : ◌≡◌ {A = ℕ} 0 1 = cc in absurd (omega arith)
 past_two false q n e = let z : ◌≡◌ {A = ℕ} 0 1 = cc in absurd (omega arith)
 
-module _ (c : Control) (t : Tables) (scopes : List Scope) (k : Call) where
-  -- the call's own checks
-  abbrev own : ℕ
-  own = refusal_by (record { tables = t; scopes = scopes }) (c.stored + c.waiting) k
+-- the store is open, and its counters are within their limits: so says the function that is asked first
+module _ (c : Control) (t : Counts) (answer : Bool) (is : (vs : List ℕ) → answer ≡ (is_open_phase c.phase && is_coherent c (tables_in t vs))) (yes : answer ≡ true) where
+  ready-by : (vs : List ℕ) → is_open_phase c.phase && is_coherent c (tables_in t vs) ≡ true
+  ready-by vs = sym (is vs) ∙ yes
+
+  pub ready : Coherent c t
+  ready = coherent c t [] (and_r (is_open_phase c.phase) _ (ready-by []))
+
+  -- of flat tables of their lengths
+  pub ready-tables : (visits scopes : ℕ) → Flat visits scopes → Ready t visits scopes
+  ready-tables visits scopes long = record { range = ready.range; visits-long = long.visits-long; long = long.scopes_long }
 
   -- the call's own checks are left
-  pub when-ready : is_open_phase c.phase && is_coherent c t ≡ true → refused_by own ≡ refused_by (number_by c t scopes k)
-  when-ready = past_two (is_open_phase c.phase) (is_coherent c t) own
+  pub when-ready : (vs : List ℕ) (scopes : List Scope) (k : Call)
+      → refused_by (refusal_by (record { tables = tables_in t vs; scopes = scopes }) (c.stored + c.waiting) k) ≡ refused_by (number_by c (tables_in t vs) scopes k)
+  when-ready vs scopes k = past_two (is_open_phase c.phase) (is_coherent c (tables_in t vs)) _ (ready-by vs)
+
+-- ── The checks ────────────────────────────────────────────────────────────────────────────────────────────────────────
 
 -- none refuses
 pub record Passed (c : Control) (t : Counts) (vs : List ℕ) (scopes : List Scope) (k : Call) : Type 0 where
@@ -77,7 +81,7 @@ pub passed : (c : Control) (t : Counts) (vs : List ℕ) (scopes : List Scope) (k
 passed c t vs scopes k e =
     let inside = is_coherent c (tables_in t vs) in
     let first = passes (not (is_open_phase c.phase)) 4 _ e in
-    let p = passes (not inside) 4 (own c (tables_in t vs) scopes k) first.1 in
+    let p = passes (not inside) 4 (refusal_by (record { tables = tables_in t vs; scopes = scopes }) (c.stored + c.waiting) k) first.1 in
     record { running = not-false (is_open_phase c.phase) first.0; within = coherent c t vs (not-false inside p.0); free = p.1 }
 
 -- a check refuses it

@@ -21,7 +21,7 @@ use tables::layout::{FLAT_LENGTH, VISITS_LENGTH};
 use tables_model::Counts;
 use wal::ram::Ram;
 
-// What a call gives that is done, of the visits begun before it, the rows after it and the copy.
+// What a call that is done gives: of the visits begun before it, the rows after it and the copy.
 #[inline(always)]
 fn done_by(t: Counts, after: Control, copy: &[u8], request: Request) -> Done
     requires { (after.stored + after.waiting ≤ row_limit) × (length copy.now ≡ charts_length) × (call_of request ≡ Call.begin → t.begun < visit_limit) }
@@ -41,10 +41,7 @@ fn done_by(t: Counts, after: Control, copy: &[u8], request: Request) -> Done
 fn pages_by(request: Request) -> usize
     ensures { result ≡ pages_of (ending (call_of request)) 0 }
 {
-    match request {
-        Request::Flush(_) => 1,
-        _ => 0,
-    }
+    usize::from(matches!(request, Request::Flush(_)))
 }
 
 // Where the power held the call is done; where it failed RAM is cleared. `before` rows were stored before the call; `pages` is what it counts where the
