@@ -57,8 +57,3 @@ opening-ready c rows begun n landed log charts copy tail visits scopes o w k e l
   bounded = record { stored = omega arith; waiting = w; count = omega arith; used = omega arith };
   few = (omega arith, omega arith);
 }
-
--- what it comes to, said otherwise
-pub opening-as : {x y : Answered} {r : Outcome} {log charts copy tail visits scopes : List ℕ} → OpenOutcome x r log charts copy tail visits scopes → x ≡ y
-    → OpenOutcome y r log charts copy tail visits scopes
-opening-as o e = rw e at o
