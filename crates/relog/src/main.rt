@@ -2,46 +2,42 @@
 // that the output cannot be written, is said on standard error.
 #![tactic(auto)]
 
+ghost use Rattle.std.specs.Prelude.{IfOk};
 ghost use Rattle.io.specs.Counts.{IsPrefixLen};
 
-use runfile::run::{INPUT_LENGTH, OUTPUT_LENGTH, Output, run};
-use std::io::{Read, Stderr, Stdin, Stdout, Write};
+use runfile::run::{INPUT_LENGTH, OUTPUT_LENGTH, run};
+use std::io;
+use std::io::{Read, Stdin, Write};
 
-// Reads until the buffer is full or the input ends. Gives the bytes read, none where a read fails: then they are not the whole input.
-fn read_input(mut stdin: Stdin, mut stderr: Stderr, buf: &mut [u8]) -> usize
-    ensures { IsPrefixLen result buf.new }
+// Reads until the buffer is full or the input ends. Gives the bytes read.
+fn read_input(mut stdin: Stdin, buf: &mut [u8]) -> io::Result<usize>
+    ensures { IfOk result (λ n. IsPrefixLen n buf.new) }
 {
-    let mut done: usize = 0;
+    let mut done = 0;
     while done < buf.len() {
-        match stdin.read(&mut buf[done..]) {
-            Ok(more) => {
-                if more == 0 {
-                    return done;
-                }
-                done += more;
-            }
-            Err(_) => {
-                let _ = stderr.write_all(b"relog: standard input cannot be read\n");
-                return 0;
-            }
+        let more = stdin.read(&mut buf[done..])?;
+        if more == 0 {
+            break;
         }
+        done += more;
     }
-    done
-}
-
-fn write_lines(mut stdout: Stdout, mut stderr: Stderr, lines: &[u8]) {
-    if stdout.write_all(lines).is_err() {
-        let _ = stderr.write_all(b"relog: standard output cannot be written\n");
-    }
+    Ok(done)
 }
 
 fn main(rt: HostRuntime) {
-    let mut input = [0u8; INPUT_LENGTH];
-    let length = read_input(rt.stdin(), rt.stderr(), &mut input);
-    let mut out = [0u8; OUTPUT_LENGTH];
-    let ran = run(&input[..length], &mut out);
-    match ran {
-        Output::Lines(n) => write_lines(rt.stdout(), rt.stderr(), &out[..n]),
-        Output::OutputTooShort => {}
+    let mut input = [0; INPUT_LENGTH];
+    let length = match read_input(rt.stdin(), &mut input) {
+        Ok(length) => length,
+        // What was read is not the whole input.
+        Err(_) => {
+            let _ = rt.stderr().write_all(b"relog: standard input cannot be read\n");
+            0
+        }
+    };
+    let mut out = [0; OUTPUT_LENGTH];
+    if let Ok(n) = run(&input[..length], &mut out) {
+        if rt.stdout().write_all(&out[..n]).is_err() {
+            let _ = rt.stderr().write_all(b"relog: standard output cannot be written\n");
+        }
     }
 }

@@ -1,8 +1,8 @@
 // Output lines (document 01, "The run file"), written one after the other.
-ghost use Rattle.std.specs.Prelude.{◌≡◌, ◌∷◌, [], ◌+◌, ◌≤◌, ◌<◌, length};
+ghost use Rattle.std.specs.Prelude.{◌∷◌, ◌+◌, ◌≤◌, ◌<◌, length};
 ghost use Rattle.book.specs.Book.{answer};
 ghost use Rattle.book.specs.Writes.{Few};
-ghost use Rattle.run_lines.specs.Lines.{decimal, signed_decimal, space, newline, line, fault_line};
+ghost use Rattle.run_lines.specs.Lines.{decimal, signed_decimal, space, line, fault_line};
 ghost use Rattle.run_lines.specs.Output.{line_length, Room, Puts};
 
 use itoa::Buffer;

@@ -83,12 +83,11 @@ module _ (file : List ℕ) (s : ℕ) (given : World) (before : List ℕ) (at : �
               (λ x. refl);
         }
 
-  pub sessions-all : (i place : ℕ) (store : World) (out : List ℕ) (to : ℕ) → s ≤ i → at ≡ 0
-      → InSessions file s given before at i place store out to → (b : Book) → Represents zeros b given
-      → Written before 0 (run_lines 1 b (sessions_in file)) to out
-  sessions-all i place store out to done start t b r =
+  pub sessions-all : (i place : ℕ) (store : World) (out : List ℕ) (to : ℕ) → s ≤ i → InSessions file s given before at i place store out to
+      → (b : Book) → Represents zeros b given → Written before at (run_lines 1 b (sessions_in file)) to out
+  sessions-all i place store out to done t b r =
       let none : s - i ≡ 0 = omega arith in
       let a = t.along b r in
       let all : a.written ≡ run_lines 1 b (sessions_in file) =
       sym (append-nil a.written) ∙ ap (λ (m : ℕ). a.written ++ run_lines (i + 1) a.book (sessions_from m i place file)) (sym none) ∙ a.rest in
-      subst (λ (k : ℕ). Written before k (run_lines 1 b (sessions_in file)) to out) start (subst (λ (x : List ℕ). Written before at x to out) all a.told.written)
+      subst (λ (x : List ℕ). Written before at x to out) all a.told.written

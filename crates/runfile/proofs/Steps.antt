@@ -8,7 +8,7 @@ use lib.ListN.{length, get_or, replicate}
 use lib.IntN.{ℤ, pos, negsuc}
 use lib.Dec.{ltb}
 use borrow.Author.Tests.{ltb-true, ltb-false, le-leb}
-use Rattle.book.specs.Limits.{log_length, charts_length, cell_limit}
+use Rattle.book.specs.Limits.{log_length, charts_length, scope_limit, cell_limit}
 use Rattle.book.specs.Calls.{Call, ending, Typed}
 use Rattle.book.specs.Rows.{is_amount}
 use Rattle.book.specs.Power.{Book, Fuse, formatted}
@@ -32,7 +32,6 @@ use Rattle.state.proofs.Kept.{kept, represents-world}
 use Rattle.state.proofs.FormattedStores.{formatted-store}
 use Rattle.state.specs.declared.ram.State.{State}
 use Rattle.tables_model.specs.declared.Scope.{Scope}
-use Rattle.cores.specs.Lent.{blanks}
 use Rattle.sessions.proofs.Held.{represents}
 use Rattle.sessions.proofs.Demand3.{held-formatted}
 use Rattle.run_reader.specs.File.{call_of_code, visit_at, receiver_at, call_at}
@@ -129,7 +128,7 @@ unfolding formats
 format-done given e = rw e
 
 pub right-lengths : (s : State) (log charts copy : List ℕ) (scopes : List Scope) → length log ≡ log_length → length charts ≡ charts_length
-    → length copy ≡ charts_length → scopes ≡ blanks → right_lengths (world s log charts copy scopes) ≡ true
+    → length copy ≡ charts_length → length scopes ≡ scope_limit → right_lengths (world s log charts copy scopes) ≡ true
 right-lengths s log charts copy scopes l c d e = rw (l, c, d, e)
 
 pub format-stands : (given : World) (x : Answered) → right_lengths given ≡ true → FormatPost zero_cells given x → Represents zeros formatted x.world
