@@ -1,10 +1,10 @@
 -- An answer is read from the number that it was packed into. Assumes nothing.
-use Prim.Native.Nat.{ℕ, ◌<◌}
+use Prim.Native.Nat.{ℕ, suc, ◌-◌, ◌^◌, ◌%◌, ◌<◌}
 use native.Mathlib.Omega.{arith}
-use mathlib.Core.Path.{◌≡◌, ap, ◌∙◌}
+use mathlib.Core.Path.{◌≡◌, ap, sym, ◌∙◌}
 use lib.IntN.{ℤ, pos, negsuc}
 use mir.Syntax.{w32}
-use mir.Val.{SFits}
+use mir.Val.{SFits, of_z}
 use Rattle.book.specs.Book.{answer}
 use Rattle.book.specs.Numbers.{bits_of}
 use Rattle.book.proofs.Numbers.{InBits, signed-bits}
@@ -15,10 +15,16 @@ in-bits : (z : ℤ) → SFits w32 z → InBits 32 z
 in-bits (pos n) f = omega arith
 in-bits (negsuc n) f = omega arith
 
-pub answer-packed : (n : ℕ) (z : ℤ) (b rows pages : ℕ) → n < 256 → SFits w32 z → b ≡ bits_of 32 z → rows < 65536
-    → (answer_in (joined_as n b rows pages) ≡ answer n z) × (writes_in (joined_as n b rows pages) ≡ record { rows = rows; pages = pages })
-answer-packed n z b rows pages l f e m =
-    let k = (signed-bits 32 z (in-bits z f)).1 in (
+-- the bits of a signed number in 32 bits
+in-32 : (z : ℤ) → SFits w32 z → of_z w32 z ≡ bits_of 32 z
+in-32 (pos n) f = let e : n ≡ n % 2 ^ 32 = omega arith in e
+in-32 (negsuc n) f = let e : n % 2 ^ 32 ≡ n = omega arith in ap (λ (m : ℕ). 2 ^ 32 - suc m) (sym e)
+
+pub answer-packed : (n : ℕ) (z : ℤ) (rows pages : ℕ) → n < 256 → SFits w32 z → rows < 65536
+    → (answer_in (joined_as n (of_z w32 z) rows pages) ≡ answer n z) × (writes_in (joined_as n (of_z w32 z) rows pages) ≡ record { rows = rows; pages = pages })
+answer-packed n z rows pages l f m =
+    let k = (signed-bits 32 z (in-bits z f)).1 in
+    let e = in-32 z f in (
       ap (λ (i : ℕ). answer_in (joined_as n i rows pages)) e ∙ answer_back n z rows pages l (in-bits z f) m,
-      writes-back n b rows pages l (omega arith) m,
+      writes-back n (of_z w32 z) rows pages l (omega (arith, e, k)) m,
     )

@@ -17,7 +17,8 @@ use Rattle.book.proofs.Lists.{and_l, and_r, clash}
 use Rattle.tables_model.specs.Layout.{entries}
 use Rattle.tables_model.specs.Visits.{tables_in}
 use Rattle.tables_model.proofs.EntriesBack.{entries-back}
-use Rattle.state.specs.Answers.{number_and_value, rows_and_pages}
+use Rattle.state.specs.declared.answers.Refusal.{Refusal}
+use Rattle.state.specs.Answers.{number_and_value, refusal_answer, rows_and_pages}
 use Rattle.state.specs.World.{right_lengths, is_open_phase, works, cleared}
 use Rattle.state.specs.CallContracts.{Answered, CallPost, answered_with}
 use Rattle.state.proofs.Cases.{refusal-case}
@@ -28,8 +29,8 @@ use Rattle.calls_model.specs.Acts.{Core, core, acted, value_by, Accepts}
 use Rattle.calls_model.specs.Perform.{core_of, world_of_core as world_left, settled, number_by, number_of, performed, accepted_by, Accepted, writes_by}
 use Rattle.calls_model.proofs.AnyWorld.{works-not-five, zero-works}
 use Rattle.calls_model.proofs.Post.{performed-post}
-use Rattle.calls.proofs.Performing.{passed, when-refused}
-use Rattle.embed_model.specs.Arrays.{Arrays, arrays, world_in, RamLengths}
+use Rattle.calls.proofs.Performing.{passed, when-refused, refuses}
+use Rattle.embed_model.specs.Arrays.{Arrays, arrays, world_in, RamLengths, Zero}
 use Rattle.embed_model.specs.Head.{control_by, counts_by, head_of}
 use Rattle.embed_model.specs.Packed.{answer_in, writes_in}
 use Rattle.embed_model.specs.Called.{answered_in, CallsOfC}
@@ -70,23 +71,22 @@ module _ (k : Call) (x : Arrays) (right : right_lengths (world_in x) ≡ true) w
   numbered = rw (right, entries-back (entries x.scopes))
 
   -- one of them refuses it
-  pub refused : Typed k → RamLengths x → (a : Answer) (r : ℕ) → (answer_in r ≡ a) × (writes_in r ≡ no_writes) → a ≡ refused_by (number_in x k) → a.number ≢ 0 → CallsOfC k x r x
+  pub refused_call : Typed k → RamLengths x → (why : Refusal) (r : ℕ) → (answer_in r ≡ refusal_answer why) × (writes_in r ≡ no_writes) → refusal_answer why ≡ refused_by (number_in x k)
+      → CallsOfC k x r x
   unfolding performed
-  refused typed long a r says e other =
+  refused_call typed long why r says e =
       let n = sym numbered in
-      let is = when-refused (world_in x) k a (number_of (world_in x) k) (e ∙ ap refused_by n) (λ z. other (ap (λ (b : Answer). b.number) e ∙ n ∙ z)) in
+      let number = ap (λ (b : Answer). b.number) (says.0 ∙ e) in
+      let other = refuses why (number_in x k) e in
+      let is = when-refused (world_in x) k (refusal_answer why) (number_of (world_in x) k) (e ∙ ap refused_by n) (λ z. other (n ∙ z)) in
       record {
         does = rw (says.0, says.1) (subst (CallPost k (world_in x)) (sym is) (performed-post (world_in x) k typed));
         keeps = λ p q. refl;
         shut = λ p. refl;
-        cut = λ t p. absurd (works-not-five (world_in x) k t (numbered ∙ sym (ap (λ (b : Answer). b.number) (says.0 ∙ e)) ∙ p));
-        done = λ z. absurd (other (sym (ap (λ (b : Answer). b.number) says.0) ∙ z));
+        cut = λ t p. absurd (works-not-five (world_in x) k t (numbered ∙ sym number ∙ p));
+        done = λ z. absurd (other (sym number ∙ z));
         sized = long;
       }
-
--- none does
-pub passes : (k : Call) (x : Arrays) (a : Answer) → a ≡ refused_by (number_in x k) → a.number ≡ 0 → number_in x k ≡ 0
-passes k x a e z = sym (ap (λ (b : Answer). b.number) e) ∙ z
 
 -- ── An accepted call ──────────────────────────────────────────────────────────────────────────────────────────────────
 
@@ -132,27 +132,28 @@ open_done x v u = go (is_running x.ram.journal) refl
     go false e = rw e
 
 module _ (k : Call) (typed : Typed k) (x : Arrays) (right : right_lengths (world_in x) ≡ true) (free : number_in x k ≡ 0)
-    (r : Outcome) (visits scopes tail copy log charts : List ℕ) (A : Accepted (core_in x) k r log charts copy tail visits scopes) where
+    (r : Outcome) (visits scopes tail copy log charts : List ℕ) (A : Accepted (core_in x) k r log charts copy tail visits scopes)
+    (n : ℕ) (says : (answer_in n ≡ number_and_value r.answer) × (writes_in n ≡ rows_and_pages r.writes)) where
   is-performed : outcome r log charts copy tail visits scopes ≡ performed (world_in x) k
   unfolding performed world_in core_of
   is-performed =
       A.is ∙ rw (numbered k x right, free, entries-back (entries x.scopes))
 
   -- it leaves the store open where it answers 0
-  open_after : (n : ℕ) (y : Arrays) → answered_in n y ≡ outcome r log charts copy tail visits scopes → is_open_phase (world_in y).state.phase ≡ eqb (answer_in n).number 0
-  open_after n y left =
+  open_after : (y : Arrays) → answered_in n y ≡ outcome r log charts copy tail visits scopes → is_open_phase (world_in y).state.phase ≡ eqb (answer_in n).number 0
+  open_after y left =
       let z = acted (core_in x) k in
       let same = left ∙ A.is in
       ap (λ (w : Answered). is_open_phase w.world.state.phase) same ∙ open_done z (value_by (core_in x) z k) (writes_by (core_in x) z k) ∙
       ap (λ (w : Answered). eqb w.answer.number 0) (sym same)
 
-  module _ (n : ℕ) (says : (answer_in n ≡ number_and_value r.answer) × (writes_in n ≡ rows_and_pages r.writes)) (head : List ℕ) (written : head ≡ head_of r.control r.counts) (counted : counts_by head ≡ r.counts)
-      (long : RamLengths (arrays head visits scopes tail copy log charts)) where
+  -- with a head that says where the journal stands and what the counters are
+  module _ (head : List ℕ) (control : control_by head ≡ r.control) (counts : counts_by head ≡ r.counts) where
     abbrev leaves : Arrays
     leaves = arrays head visits scopes tail copy log charts
 
     left : answered_in n leaves ≡ outcome r log charts copy tail visits scopes
-    left = outcome-is r head visits scopes tail copy log charts n says.0 says.1 (rw written (control-back r.control r.counts)) counted
+    left = outcome-is r head visits scopes tail copy log charts n says.0 says.1 control counts
 
     number_is : (answer_in n).number ≡ (accepted_by (core_in x) k).answer.number
     number_is = ap (λ (y : Answered). y.answer.number) (left ∙ A.is)
@@ -164,30 +165,28 @@ module _ (k : Call) (typed : Typed k) (x : Arrays) (right : right_lengths (world
         go (inl z) = absurd (p (number_is ∙ z))
         go (inr z) = absurd (q (number_is ∙ z))
 
-    pub accepted-call : CallsOfC k x n leaves
-    accepted-call = record {
+    call-with : RamLengths leaves → ((answer_in n).number ≡ 5 → Zero leaves) → CallsOfC k x n leaves
+    call-with long cut = record {
       does = subst (CallPost k (world_in x)) (sym (left ∙ is-performed)) (performed-post (world_in x) k typed);
       keeps = neither;
       shut = λ p. clash _ (is-working k x right free) p;
-      cut = λ o p. zeroed r head visits scopes tail copy log charts
-          (A.zero (refusal-case r.answer (λ z. let five = sym p ∙ ap (λ (b : Answer). b.number) says.0 ∙ z in omega arith))) written;
-      done = λ z. open_after n leaves left ∙ ap (λ (m : ℕ). eqb m 0) z;
+      cut = λ o. cut;
+      done = λ z. open_after leaves left ∙ ap (λ (m : ℕ). eqb m 0) z;
       sized = long;
     }
 
--- a read leaves the arrays as they were
-pub read-call : (k : Call) → Typed k → (x : Arrays) → right_lengths (world_in x) ≡ true → number_in x k ≡ 0
-    → (r : Outcome) → Accepted (core_in x) k r x.log x.charts x.copy x.tail x.visits x.scopes → (n : ℕ) → (answer_in n ≡ number_and_value r.answer) × (writes_in n ≡ rows_and_pages r.writes)
-    → (r.control ≡ control_by x.head) × (r.counts ≡ counts_by x.head) → RamLengths x → CallsOfC k x n x
-read-call k typed x right free r A n says same long =
-    let left : answered_in n x ≡ outcome r x.log x.charts x.copy x.tail x.visits x.scopes =
-    outcome-is r x.head x.visits x.scopes x.tail x.copy x.log x.charts n says.0 says.1 (sym same.0) (sym same.1) in
-    let after = open_after k typed x right free r x.visits x.scopes x.tail x.copy x.log x.charts A n x left in
-    record {
-      does = subst (CallPost k (world_in x)) (sym (left ∙ is-performed k typed x right free r x.visits x.scopes x.tail x.copy x.log x.charts A)) (performed-post (world_in x) k typed);
-      keeps = λ p q. refl;
-      shut = λ p. refl;
-      cut = λ o p. clash _ (is_open k x free) (after ∙ ap (λ (m : ℕ). eqb m 0) p);
-      done = λ z. after ∙ ap (λ (m : ℕ). eqb m 0) z;
-      sized = long;
-    }
+  -- with the head that was written
+  pub accepted-call : (head : List ℕ) → head ≡ head_of r.control r.counts → counts_by head ≡ r.counts → RamLengths (arrays head visits scopes tail copy log charts)
+      → CallsOfC k x n (arrays head visits scopes tail copy log charts)
+  accepted-call head written counted long =
+      call-with head (rw written (control-back r.control r.counts)) counted long (λ p. zeroed r head visits scopes tail copy log charts
+      (A.zero (refusal-case r.answer (λ z. let five = sym p ∙ ap (λ (b : Answer). b.number) says.0 ∙ z in omega arith))) written)
+
+  -- with the head as it was: a call that changes neither
+  pub call-without-head : control_by x.head ≡ r.control → counts_by x.head ≡ r.counts → RamLengths (arrays x.head visits scopes tail copy log charts)
+      → CallsOfC k x n (arrays x.head visits scopes tail copy log charts)
+  unfolding world_in
+  call-without-head control counts long =
+      let y : Arrays = arrays x.head visits scopes tail copy log charts in
+      let open_still : is_open_phase (world_in y).state.phase ≡ true = is_open k x free in
+      call-with x.head control counts long (λ p. clash _ open_still (open_after y (left x.head control counts) ∙ ap (λ (m : ℕ). eqb m 0) p))

@@ -1,5 +1,4 @@
 -- What the proofs of several functions use.
 mod Answers
 mod Calling
-mod Eight
 mod Restarting

@@ -12,20 +12,24 @@ use Rattle.book.specs.Writes.{no_writes}
 use Rattle.book.specs.Limits.{cell_limit, page_limit}
 use Rattle.book.specs.Book as book
 use Rattle.book.specs.Numbers.{AreBytes}
-use Rattle.state.specs.declared.answers.Answer.{Answer}
+use Rattle.std.specs.Prelude.{Result, Ok, Err, Option, Some, None}
+use Rattle.state.specs.declared.answers.Done.TheVariants.{Nothing}
+use Rattle.state.specs.declared.answers.Refusal.{Refusal}
 use Rattle.state.specs.declared.ram.Fuse.{Fuse}
-use Rattle.state.specs.Answers.{number_and_value, rows_and_pages}
+use Rattle.state.specs.Answers.{number_and_value, refusal_answer, rows_and_pages}
 use Rattle.state.specs.World.{right_lengths, allowance, fuse_of_number, cleared}
 use Rattle.state.specs.CallContracts.{Answered, answered, bad_cell}
 use Rattle.state.proofs.Cases.{refusal-case}
+use Rattle.calls.proofs.Performing.{numbered}
 use Rattle.journal.specs.declared.Outcome.{Outcome}
 use Rattle.journal.specs.Outcomes.{outcome, Zeroed, Bounded}
 use Rattle.wal.specs.Writing.{Ram, is_running}
+use Rattle.recovery_model.specs.declared.BadRow.{BadRow}
 use Rattle.recovery_model.specs.declared.Reason.{Reason}
 use Rattle.recovery_model.specs.declared.Reason.TheVariants.{Bytes, Rule, Limit}
 use Rattle.recovery_model.specs.Scan.{number_of_reason, Scanned, scanned}
 use Rattle.recovery_model.specs.Charts.{bad_page_by}
-use Rattle.recovery_model.specs.Openings.{no_index, settled_opening, recovered_by, checked_by, opens_by}
+use Rattle.recovery_model.specs.Openings.{no_index, settled_opening, unless_bad, recovered_by, checked_by, opens_by}
 use Rattle.recovery_model.specs.Answering.{Formatted, formatted_as, format_bytes, OpenOutcome}
 use Rattle.recovery_model.proofs.Formats.{format-done, format-refused}
 use Rattle.recovery_model.proofs.Post.{opens_by_lem}
@@ -65,43 +69,41 @@ unchanged values log charts = go (eqb (length values) cell_limit) (ltb (bad_cell
     go true true l c ne = (refl, refl)
     go true false l c ne = absurd (ne refl)
 
-module _ (values : List ℤ) (x : Arrays) (right : right_lengths (world_in x) ≡ true) (a : Answer) (log charts : List ℕ)
-    (is : formatted_as a log charts ≡ format_bytes values x.log x.charts) where
-  formatted : formatted_as a log charts ≡ format_bytes values (world_in x).log (world_in x).charts
-  unfolding world_in
-  formatted = is
-
+module _ (values : List ℤ) (x : Arrays) (right : right_lengths (world_in x) ≡ true) (log charts : List ℕ) where
   -- what a refused format leaves
   abbrev left : Arrays
   left = arrays x.head x.visits x.scopes x.tail x.copy log charts
 
-  pub refused-format : RamLengths x → (n : ℕ) → (answer_in n ≡ number_and_value a) × (writes_in n ≡ no_writes) → (number_and_value a).number ≢ 0 → FormatsOfC values x n left
+  pub refused-format : (why : Refusal) → formatted_as (Err why) log charts ≡ format_bytes values x.log x.charts → RamLengths x
+      → (n : ℕ) → (answer_in n ≡ refusal_answer why) × (writes_in n ≡ no_writes) → FormatsOfC values x n left
   unfolding world_in
-  refused-format long n says ne =
+  refused-format why is long n says =
+      let ne = numbered why in
       let u = unchanged values x.log x.charts (λ z. ne (ap (λ (f : Formatted). f.answer.number) is ∙ z)) in
       let l : log ≡ x.log = ap (λ (f : Formatted). f.log) is ∙ u.0 in
       let c : charts ≡ x.charts = ap (λ (f : Formatted). f.charts) is ∙ u.1 in
       let same : left ≡ x = λ i. arrays x.head x.visits x.scopes x.tail x.copy (l i) (c i) in
       record {
-        does = record { is = rw (says.0, says.1) (sym (format-refused values (world_in x) right a log charts formatted ne)) };
+        does = record { is = rw (says.0, says.1) (sym (format-refused values (world_in x) right (Err why) log charts is ne)) };
         keeps = λ q. same;
         clears = λ z. absurd (ne (sym (ap (λ (b : book.Answer). b.number) says.0) ∙ z));
         sized = subst RamLengths (sym same) long;
       }
 
-  module _ (zero : (number_and_value a).number ≡ 0) (r : Outcome) (answers : r.answer ≡ a) (stored : r.writes ≡ record { rows = 0; pages = 0 }) (head visits scopes tail copy : List ℕ)
-      (cleared : Zeroed r copy tail visits scopes) (written : head ≡ head_of r.control r.counts) where
+  module _ (is : formatted_as (Ok tt) log charts ≡ format_bytes values x.log x.charts) (r : Outcome) (answers : r.answer ≡ Ok Nothing) (stored : r.writes ≡ record { rows = 0; pages = 0 })
+      (head visits scopes tail copy : List ℕ) (cleared : Zeroed r copy tail visits scopes) (written : head ≡ head_of r.control r.counts) where
     abbrev leaves : Arrays
     leaves = arrays head visits scopes tail copy log charts
 
     pub done-format : (n : ℕ) → (answer_in n ≡ number_and_value r.answer) × (writes_in n ≡ rows_and_pages r.writes) → FormatsOfC values x n leaves
+    unfolding world_in
     done-format n says =
         let z = zeroed r head visits scopes tail copy log charts cleared written in
         let e = says.0 ∙ ap number_and_value answers in
         let none : writes_in n ≡ no_writes = says.1 ∙ ap rows_and_pages stored in
         record {
-          does = record { is = rw (e, none, zero-cleared leaves z) (sym (format-done values (world_in x) right a log charts formatted zero)) };
-          keeps = λ q. absurd (q (ap (λ (b : book.Answer). b.number) e ∙ zero));
+          does = record { is = rw (e, none, zero-cleared leaves z) (sym (format-done values (world_in x) right (Ok tt) log charts is refl)) };
+          keeps = λ q. absurd (q (ap (λ (b : book.Answer). b.number) e));
           clears = λ q. z;
           sized = zero-long leaves z;
         }
@@ -123,14 +125,13 @@ settled-not-one rows begun m charts = go (is_running m.journal) refl
     go false e = rw e (λ q. omega arith)
 
 never-one : (f : Fuse) (log charts : List ℕ) (s : Scanned) → (checked_by f log charts s).answer.number ≢ 1
-never-one f log charts s = go (not (eqb s.bad 0)) (ltb (bad_page_by log s.rows charts) page_limit)
+never-one f log charts s = go s.bad (ltb (bad_page_by log s.rows charts) page_limit)
   where
-    go : (bad page : Bool)
-        → (cond bad (answered (number_of_reason s.reason) (pos s.bad) (cleared log charts))
-        (cond page (answered 4 (pos (bad_page_by log s.rows charts)) (cleared log charts)) (recovered_by f log charts s))).answer.number ≢ 1
-    go true page = reason-not-one s.reason
-    go false true = λ e. omega arith
-    go false false = settled-not-one _ _ _ _
+    go : (bad : Option BadRow) (page : Bool)
+        → (unless_bad bad (cleared log charts) (cond page (answered 4 (pos (bad_page_by log s.rows charts)) (cleared log charts)) (recovered_by f log charts s))).answer.number ≢ 1
+    go (Some b) page = reason-not-one b.reason
+    go None true = λ e. omega arith
+    go None false = settled-not-one _ _ _ _
 
 module _ (fuse : ℕ) (f : Fuse) (meant : allowance f ≡ fuse_of_number fuse) (x : Arrays) (right : right_lengths (world_in x) ≡ true) (bytes : AreBytes x.charts)
     (r : Outcome) (head visits scopes tail copy log : List ℕ)

@@ -5,7 +5,7 @@
 mod head; // where the journal stands and the counters, in eight numbers
 mod opening; // format and open on the arrays, and a page alone
 mod packed; // the answer in one number
-mod run; // the calls of an open store on the arrays
+mod run; // a call of an open store on the arrays
 
 ghost use Rattle.book.specs.Calls.{Call};
 ghost use Rattle.embed_model.specs.Arrays.{arrays};
@@ -14,6 +14,9 @@ ghost use Rattle.embed_model.specs.PageOfC.{RedoesOfC};
 
 use head::HEAD_LENGTH;
 use rows::limits::{CHARTS_LENGTH, TAIL_LENGTH};
+use rows::{Cell, Visit};
+use run::call;
+use state::requests::Request;
 use tables::layout::{FLAT_LENGTH, VISITS_LENGTH};
 
 #[unsafe(no_mangle)]
@@ -63,7 +66,16 @@ pub extern "C" fn chart_begin_on(
     ensures { CallsOfC Call.begin (arrays head.old visits.old scopes.old tail.old copy.old log.old charts.old) result
         (arrays head.new visits.new scopes.new tail.new copy.new log.new charts.new) }
 {
-    run::begin(head, visits, scopes, tail, copy, log, charts)
+    call(
+        head,
+        visits,
+        scopes,
+        tail,
+        copy,
+        log,
+        charts,
+        Request::Begin,
+    )
 }
 
 #[unsafe(no_mangle)]
@@ -82,9 +94,8 @@ pub extern "C" fn chart_change_on(
     ensures { CallsOfC (Call.change visit cell amount) (arrays head.old visits.old scopes.old tail.old copy.old log.old charts.old) result
         (arrays head.new visits.new scopes.new tail.new copy.new log.new charts.new) }
 {
-    run::change(
-        head, visits, scopes, tail, copy, log, charts, visit, cell, amount,
-    )
+    let request = Request::Change(Visit(visit), Cell(cell), amount);
+    call(head, visits, scopes, tail, copy, log, charts, request)
 }
 
 #[unsafe(no_mangle)]
@@ -103,9 +114,8 @@ pub extern "C" fn chart_hand_over_on(
     ensures { CallsOfC (Call.hand_over giver receiver cell) (arrays head.old visits.old scopes.old tail.old copy.old log.old charts.old) result
         (arrays head.new visits.new scopes.new tail.new copy.new log.new charts.new) }
 {
-    run::hand_over(
-        head, visits, scopes, tail, copy, log, charts, giver, receiver, cell,
-    )
+    let request = Request::HandOver(Visit(giver), Visit(receiver), Cell(cell));
+    call(head, visits, scopes, tail, copy, log, charts, request)
 }
 
 #[unsafe(no_mangle)]
@@ -123,9 +133,8 @@ pub extern "C" fn chart_hand_over_all_on(
     ensures { CallsOfC (Call.hand_over_all giver receiver) (arrays head.old visits.old scopes.old tail.old copy.old log.old charts.old) result
         (arrays head.new visits.new scopes.new tail.new copy.new log.new charts.new) }
 {
-    run::hand_over_all(
-        head, visits, scopes, tail, copy, log, charts, giver, receiver,
-    )
+    let request = Request::HandOverAll(Visit(giver), Visit(receiver));
+    call(head, visits, scopes, tail, copy, log, charts, request)
 }
 
 #[unsafe(no_mangle)]
@@ -142,7 +151,8 @@ pub extern "C" fn chart_commit_on(
     ensures { CallsOfC (Call.commit visit) (arrays head.old visits.old scopes.old tail.old copy.old log.old charts.old) result
         (arrays head.new visits.new scopes.new tail.new copy.new log.new charts.new) }
 {
-    run::commit(head, visits, scopes, tail, copy, log, charts, visit)
+    let request = Request::Commit(Visit(visit));
+    call(head, visits, scopes, tail, copy, log, charts, request)
 }
 
 #[unsafe(no_mangle)]
@@ -159,7 +169,8 @@ pub extern "C" fn chart_abort_on(
     ensures { CallsOfC (Call.abort visit) (arrays head.old visits.old scopes.old tail.old copy.old log.old charts.old) result
         (arrays head.new visits.new scopes.new tail.new copy.new log.new charts.new) }
 {
-    run::abort(head, visits, scopes, tail, copy, log, charts, visit)
+    let request = Request::Abort(Visit(visit));
+    call(head, visits, scopes, tail, copy, log, charts, request)
 }
 
 #[unsafe(no_mangle)]
@@ -175,7 +186,16 @@ pub extern "C" fn chart_force_on(
     ensures { CallsOfC Call.force (arrays head.old visits.old scopes.old tail.old copy.old log.old charts.old) result
         (arrays head.new visits.new scopes.new tail.new copy.new log.new charts.new) }
 {
-    run::force(head, visits, scopes, tail, copy, log, charts)
+    call(
+        head,
+        visits,
+        scopes,
+        tail,
+        copy,
+        log,
+        charts,
+        Request::Force,
+    )
 }
 
 #[unsafe(no_mangle)]
@@ -192,7 +212,8 @@ pub extern "C" fn chart_flush_on(
     ensures { CallsOfC (Call.flush page) (arrays head.old visits.old scopes.old tail.old copy.old log.old charts.old) result
         (arrays head.new visits.new scopes.new tail.new copy.new log.new charts.new) }
 {
-    run::flush(head, visits, scopes, tail, copy, log, charts, page)
+    let request = Request::Flush(page);
+    call(head, visits, scopes, tail, copy, log, charts, request)
 }
 
 #[unsafe(no_mangle)]
@@ -209,7 +230,8 @@ pub extern "C" fn chart_read_on(
     ensures { CallsOfC (Call.read cell) (arrays head.old visits.old scopes.old tail.old copy.old log.old charts.old) result
         (arrays head.new visits.new scopes.new tail.new copy.new log.new charts.new) }
 {
-    run::read(head, visits, scopes, tail, copy, log, charts, cell)
+    let request = Request::Read(Cell(cell));
+    call(head, visits, scopes, tail, copy, log, charts, request)
 }
 
 // Lent the log and one page's bytes alone, with its number: no call of a session.

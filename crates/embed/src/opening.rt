@@ -1,68 +1,79 @@
-// Format and open on the arrays, lent as slices; neither takes anything from the arrays of RAM. And the forward part for one page, which is lent none.
-ghost use Rattle.embed_model.specs.Arrays.{arrays, RamLengths};
+// Format and open on the arrays; neither takes anything from the arrays of RAM. And the forward part for one page, which is lent none.
+ghost use Rattle.embed_model.specs.Arrays.{arrays};
 ghost use Rattle.embed_model.specs.Called.{FormatsOfC, OpensOfC};
 ghost use Rattle.embed_model.specs.PageOfC.{RedoesOfC};
 
-use crate::head::finish;
-use crate::packed::packed;
+use crate::head::{HEAD_LENGTH, finish};
+use crate::packed::{packed, refused};
 use journal::lengths::stored_fit;
 use recovery::page_alone::redo_page_alone;
-use state::answers::{Answer, no_writes, number_of};
-use state::ram::fuse_of_number;
-use wal::clear::clear_ram;
+use rows::limits::{CHARTS_LENGTH, TAIL_LENGTH};
+use state::answers::{Done, Refusal, Writes};
+use state::ram::Fuse;
+use tables::layout::{FLAT_LENGTH, VISITS_LENGTH};
+use wal::ram::Ram;
 
 pub(crate) fn format(
-    head: &mut [u32],
-    visits: &mut [u16],
-    scopes: &mut [u16],
-    tail: &mut [u8],
-    copy: &mut [u8],
+    head: &mut [u32; HEAD_LENGTH],
+    visits: &mut [u16; VISITS_LENGTH],
+    scopes: &mut [u16; FLAT_LENGTH],
+    tail: &mut [u8; TAIL_LENGTH],
+    copy: &mut [u8; CHARTS_LENGTH],
     log: &mut [u8],
     charts: &mut [u8],
     cells: &[i32],
 ) -> u64
-    requires { RamLengths (arrays head.old visits.old scopes.old tail.old copy.old log.old charts.old) }
-    ensures { FormatsOfC cells.now
-        (arrays head.old visits.old scopes.old tail.old copy.old log.old charts.old) result
+    ensures { FormatsOfC cells.now (arrays head.old visits.old scopes.old tail.old copy.old log.old charts.old) result
         (arrays head.new visits.new scopes.new tail.new copy.new log.new charts.new) }
 {
     if !stored_fit(log.len(), charts.len()) {
-        return packed(Answer::WrongLength);
+        return refused(Refusal::WrongLength);
     }
-    let answer = recovery::format::format(cells, log, charts);
-    if number_of(answer) != 0 {
-        return packed(answer);
+    if let Err(refusal) = recovery::format::format(cells, log, charts) {
+        return refused(refusal);
     }
-    let none = no_writes();
-    let r = clear_ram(copy, tail, visits, scopes, answer, none);
-    finish(head, r)
+    let ram = Ram {
+        copy,
+        tail,
+        visits,
+        scopes,
+    };
+    finish(head, ram.clear(Ok(Done::Nothing), Writes::default()))
 }
 
 pub(crate) fn open(
-    head: &mut [u32],
-    visits: &mut [u16],
-    scopes: &mut [u16],
-    tail: &mut [u8],
-    copy: &mut [u8],
+    head: &mut [u32; HEAD_LENGTH],
+    visits: &mut [u16; VISITS_LENGTH],
+    scopes: &mut [u16; FLAT_LENGTH],
+    tail: &mut [u8; TAIL_LENGTH],
+    copy: &mut [u8; CHARTS_LENGTH],
     log: &mut [u8],
     charts: &[u8],
     fuse: u32,
 ) -> u64
-    requires { RamLengths (arrays head.old visits.old scopes.old tail.old copy.old log.old charts.now) }
-    ensures { OpensOfC fuse
-        (arrays head.old visits.old scopes.old tail.old copy.old log.old charts.now) result
+    ensures { OpensOfC fuse (arrays head.old visits.old scopes.old tail.old copy.old log.old charts.now) result
         (arrays head.new visits.new scopes.new tail.new copy.new log.new charts.now) }
 {
     if !stored_fit(log.len(), charts.len()) {
-        return packed(Answer::WrongLength);
+        return refused(Refusal::WrongLength);
     }
-    let f = fuse_of_number(fuse);
-    let r = recovery::open::open(f, log, charts, copy, tail, visits, scopes);
-    finish(head, r)
+    let ram = Ram {
+        copy,
+        tail,
+        visits,
+        scopes,
+    };
+    finish(
+        head,
+        recovery::open::open(Fuse::from(fuse), log, charts, ram),
+    )
 }
 
 pub(crate) fn redo_page(log: &[u8], page: &mut [u8], number: u8) -> u64
     ensures { RedoesOfC log.now number page.old result page.new }
 {
-    packed(redo_page_alone(log, page, number))
+    match redo_page_alone(log, page, number) {
+        Ok(()) => packed(Ok(Done::Nothing), Writes::default()),
+        Err(refusal) => refused(refusal),
+    }
 }

@@ -3,30 +3,29 @@
 ghost use Rattle.std.specs.Prelude.{◌≡◌};
 ghost use Rattle.book.specs.Book.{answer};
 ghost use Rattle.book.specs.Writes.{Few, no_writes};
-ghost use Rattle.state.specs.Answers.{number_and_value, rows_and_pages};
+ghost use Rattle.state.specs.Answers.{number_and_value, refusal_answer, rows_and_pages};
 ghost use Rattle.embed_model.specs.Packed.{answer_in, writes_in};
 
-use charts::numbers::bits32;
-use state::answers::{Answer, Writes, no_writes, number_of, value_of};
+use state::answers::{Answer, Refusal, Writes, number_of, value_of};
 
 fn joined(number: u8, value: i32, rows: usize, pages: usize) -> u64
     requires { Few (record { rows = rows; pages = pages }) }
     ensures { (answer_in result ≡ answer number value) × (writes_in result ≡ record { rows = rows; pages = pages }) }
 {
-    let low = 4294967296 * (number as u64) + bits32(value) as u64;
+    let low = 4294967296 * u64::from(number) + u64::from(value.cast_unsigned());
     72057594037927936 * (pages as u64) + (1099511627776 * (rows as u64) + low)
 }
 
-pub(crate) fn packed_with(a: Answer, w: Writes) -> u64
+pub(crate) fn packed(a: Answer, w: Writes) -> u64
     requires { Few (rows_and_pages w) }
     ensures { (answer_in result ≡ number_and_value a) × (writes_in result ≡ rows_and_pages w) }
 {
     joined(number_of(a), value_of(a), w.rows, w.pages)
 }
 
-// Of a call that stored nothing.
-pub(crate) fn packed(a: Answer) -> u64
-    ensures { (answer_in result ≡ number_and_value a) × (writes_in result ≡ no_writes) }
+// Of a call that was refused, and so stored nothing.
+pub(crate) fn refused(refusal: Refusal) -> u64
+    ensures { (answer_in result ≡ refusal_answer refusal) × (writes_in result ≡ no_writes) }
 {
-    packed_with(a, no_writes())
+    packed(Err(refusal), Writes::default())
 }
