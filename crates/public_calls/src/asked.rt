@@ -32,6 +32,6 @@ pub(crate) fn asked_by(
         7 => Asked::Call(Request::Force),
         8 => Asked::Call(Request::Read(Cell(cell))),
         9 => Asked::Call(Request::HandOverAll(Visit(visit), Visit(receiver))),
-        _ => Asked::Open(fuse_by(limited as u64, writes as u64)),
+        _ => Asked::Open(fuse_by(limited != 0, writes)),
     }
 }

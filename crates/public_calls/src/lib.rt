@@ -11,7 +11,7 @@ mod ram; // the state in numbers
 use asked::asked_by;
 use lent::ask;
 use packed::packed;
-use ram::{HEAD_LENGTH, head_of, state_in, tail_of, visits_of};
+use ram::{HEAD_LENGTH, head_of, state_in, visits_of};
 use rows::limits::TAIL_LENGTH;
 use tables::layout::VISITS_LENGTH;
 
@@ -40,13 +40,10 @@ pub extern "C" fn public_call_on(
 ) -> u64 {
     let state = state_in(*head, *visits, *tail);
     let asked = asked_by(code, visit, receiver, cell, amount, limited, writes);
-    let r = ask(state, log, charts, copy, scopes, cells, asked);
-    let left = r.state;
-    *head = head_of(left);
-    *visits = visits_of(left);
-    *tail = tail_of(left);
-    let stored = r.writes;
-    *counts = [stored.rows as u64, stored.pages as u64];
-    let answer = r.answer;
-    packed(answer)
+    let reply = ask(state, log, charts, copy, scopes, cells, asked);
+    *head = head_of(reply.state);
+    *visits = visits_of(reply.state);
+    tail.copy_from_slice(&reply.state.tail);
+    *counts = [reply.writes.rows as u64, reply.writes.pages as u64];
+    packed(reply.answer)
 }

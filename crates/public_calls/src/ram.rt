@@ -8,15 +8,11 @@ use tables_model::Tables;
 
 pub(crate) const HEAD_LENGTH: usize = 8;
 
-fn phase_by(x: u64) -> Phase {
-    if x == 0 { Phase::Closed } else { Phase::Open }
-}
-
-pub(crate) fn fuse_by(kind: u64, left: u64) -> Fuse {
-    if kind == 0 {
-        Fuse::Unlimited
+pub(crate) fn fuse_by(is_limited: bool, left: u32) -> Fuse {
+    if is_limited {
+        Fuse::Left(left)
     } else {
-        Fuse::Left((left % 4294967296) as u32)
+        Fuse::Unlimited
     }
 }
 
@@ -25,70 +21,45 @@ pub(crate) fn state_in(
     visits: [u16; VISITS_LENGTH],
     tail: [u8; TAIL_LENGTH],
 ) -> State {
-    let phase = phase_by(head[0]);
-    let fuse = fuse_by(head[1], head[2]);
-    let active = visits_from(&visits);
-    let tables = Tables {
-        begun: (head[5] % 65536) as u16,
-        active: active,
-        count: head[6] as usize,
-        used: head[7] as usize,
-    };
+    let [phase, kind, left, stored, waiting, begun, count, used] = head;
     State {
-        phase: phase,
-        fuse: fuse,
-        stored: head[3] as usize,
-        waiting: head[4] as usize,
-        tables: tables,
-        tail: tail,
-    }
-}
-
-fn phase_number(p: Phase) -> u64 {
-    match p {
-        Phase::Open => 1,
-        Phase::Closed => 0,
-    }
-}
-
-fn kind_number(f: Fuse) -> u64 {
-    match f {
-        Fuse::Unlimited => 0,
-        Fuse::Left(_) => 1,
-    }
-}
-
-fn left_number(f: Fuse) -> u64 {
-    match f {
-        Fuse::Unlimited => 0,
-        Fuse::Left(n) => n as u64,
+        phase: if phase == 0 {
+            Phase::Closed
+        } else {
+            Phase::Open
+        },
+        fuse: fuse_by(kind != 0, (left & 0xffff_ffff) as u32),
+        stored: stored as usize,
+        waiting: waiting as usize,
+        tables: Tables {
+            begun: (begun & 0xffff) as u16,
+            active: visits_from(&visits),
+            count: count as usize,
+            used: used as usize,
+        },
+        tail,
     }
 }
 
 pub(crate) fn head_of(s: State) -> [u64; HEAD_LENGTH] {
-    let p = s.phase;
-    let f = s.fuse;
-    let t = s.tables;
-    let phase = phase_number(p);
-    let kind = kind_number(f);
-    let left = left_number(f);
-    let stored = s.stored as u64;
-    let waiting = s.waiting as u64;
-    let begun = t.begun as u64;
-    let count = t.count as u64;
-    let used = t.used as u64;
-    [phase, kind, left, stored, waiting, begun, count, used]
+    let (kind, left) = match s.fuse {
+        Fuse::Unlimited => (0, 0),
+        Fuse::Left(n) => (1, u64::from(n)),
+    };
+    [
+        u64::from(s.phase == Phase::Open),
+        kind,
+        left,
+        s.stored as u64,
+        s.waiting as u64,
+        u64::from(s.tables.begun),
+        s.tables.count as u64,
+        s.tables.used as u64,
+    ]
 }
 
 pub(crate) fn visits_of(s: State) -> [u16; VISITS_LENGTH] {
-    let tables = s.tables;
-    let active = tables.active;
-    let mut visits = [0u16; VISITS_LENGTH];
-    visits_into(active, &mut visits);
+    let mut visits = [0; VISITS_LENGTH];
+    visits_into(s.tables.active, &mut visits);
     visits
-}
-
-pub(crate) fn tail_of(s: State) -> [u8; TAIL_LENGTH] {
-    let tail = s.tail;
-    tail
 }
