@@ -4,5 +4,5 @@
 
 pub mod charts;
 pub mod check;
-pub mod numbers;
+mod numbers;
 pub mod page;

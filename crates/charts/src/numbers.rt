@@ -1,7 +1,7 @@
-// Numbers put into bytes, little-endian, and signed numbers as their 32 bits, in two's complement.
+// Numbers put into bytes, little-endian.
 ghost use Rattle.std.specs.Prelude.{◌≡◌, ◌+◌, ◌≤◌, length};
 ghost use Rattle.std.proofs.lemmas.List.Edits.{sets};
-ghost use Rattle.book.specs.Numbers.{le, bits_of};
+ghost use Rattle.book.specs.Numbers.{le};
 
 // A number put into two bytes.
 pub(crate) fn write16(b: &mut [u8], at: usize, x: u16)
@@ -17,11 +17,4 @@ pub(crate) fn write32(b: &mut [u8], at: usize, x: u32)
     ensures { b.new ≡ sets b.old at (le 4 x) }
 {
     b[at..at + 4].copy_from_slice(&x.to_le_bytes());
-}
-
-// The 32 bits of a signed number.
-pub fn bits32(z: i32) -> u32
-    ensures { result ≡ bits_of 32 z }
-{
-    z.cast_unsigned()
 }
