@@ -30,14 +30,18 @@ fn main(rt: HostRuntime) {
         Ok(length) => length,
         // What was read is not the whole input.
         Err(_) => {
-            let _ = rt.stderr().write_all(b"relog: standard input cannot be read\n");
+            let _ = rt
+                .stderr()
+                .write_all(b"relog: standard input cannot be read\n");
             0
         }
     };
     let mut out = [0; OUTPUT_LENGTH];
     if let Ok(n) = run(&input[..length], &mut out) {
         if rt.stdout().write_all(&out[..n]).is_err() {
-            let _ = rt.stderr().write_all(b"relog: standard output cannot be written\n");
+            let _ = rt
+                .stderr()
+                .write_all(b"relog: standard output cannot be written\n");
         }
     }
 }
