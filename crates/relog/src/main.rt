@@ -7,7 +7,7 @@ ghost use Rattle.io.specs.Counts.{IsPrefixLen};
 
 use runfile::run::{INPUT_LENGTH, OUTPUT_LENGTH, run};
 use std::io;
-use std::io::{Read, Stdin, Write};
+use std::io::{Read, Stderr, Stdin, Write};
 
 // Reads until the buffer is full or the input ends. Gives the bytes read.
 fn read_input(mut stdin: Stdin, buf: &mut [u8]) -> io::Result<usize>
@@ -24,24 +24,25 @@ fn read_input(mut stdin: Stdin, buf: &mut [u8]) -> io::Result<usize>
     Ok(done)
 }
 
+// Nothing is left to do where standard error cannot be written either.
+fn say(mut stderr: Stderr, text: &[u8]) {
+    let _ = stderr.write_all(text);
+}
+
 fn main(rt: HostRuntime) {
     let mut input = [0; INPUT_LENGTH];
     let length = match read_input(rt.stdin(), &mut input) {
         Ok(length) => length,
         // What was read is not the whole input.
         Err(_) => {
-            let _ = rt
-                .stderr()
-                .write_all(b"relog: standard input cannot be read\n");
+            say(rt.stderr(), b"relog: standard input cannot be read\n");
             0
         }
     };
     let mut out = [0; OUTPUT_LENGTH];
     if let Ok(n) = run(&input[..length], &mut out) {
         if rt.stdout().write_all(&out[..n]).is_err() {
-            let _ = rt
-                .stderr()
-                .write_all(b"relog: standard output cannot be written\n");
+            say(rt.stderr(), b"relog: standard output cannot be written\n");
         }
     }
 }

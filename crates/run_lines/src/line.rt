@@ -15,7 +15,7 @@ pub struct Output<'a> {
 }
 
 impl Output<'_> {
-    // The line of a call, or of an opening, for which call is 0.
+    // The line of a call, or of an opening, for which call is 0. What it is asked for is below 65,536, so that 32 bits hold it.
     pub fn put_line(
         &mut self,
         session: usize,
