@@ -1,4 +1,3 @@
 pub mod NextRow
-pub mod Digits
 pub mod Arguments
 pub mod OpenedLogs

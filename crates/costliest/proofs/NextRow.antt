@@ -3,10 +3,8 @@
 use Prim.Native.Nat.{ℕ, zero, suc, ◌<◌}
 use native.Mathlib.Omega.{arith}
 use mathlib.Core.Path.{◌≡◌, refl, ap, sym, ◌∙◌, subst}
-use mathlib.Core.Logic.{◌≢◌}
 use mathlib.Core.List.{List, [], ◌∷◌, ◌++◌}
 use lib.ListN.{replicate}
-use lib.IntN.{pos}
 use Rattle.book.specs.Limits.{cost_limit, log_length}
 use Rattle.book.specs.Rows.{Row}
 use Rattle.book.specs.RowBytes.{row_bytes}
@@ -16,17 +14,6 @@ use Rattle.book.proofs.CostliestLogs.{costliest-log}
 use Rattle.journal.specs.Writes.{put_row}
 use Rattle.journal.proofs.RowsInBytes.{log-next}
 use Rattle.costliest.specs.NextRow.{costliest_row}
-
--- ── Which row comes next ──────────────────────────────────────────────────────────────────────────────────────────────
-
-pub begin-first : (k : ℕ) → k ≡ 0 → Row.begin 1 ≡ costliest_row k
-begin-first k e = ap costliest_row (sym e)
-
-pub change-later : (k : ℕ) → k ≢ 0 → Row.change 1 0 (pos 1) ≡ costliest_row k
-change-later zero e = absurd (e refl)
-change-later (suc k) e = refl
-
--- ── Its bytes behind the others ───────────────────────────────────────────────────────────────────────────────────────
 
 same-last : (n : ℕ) (r : Row) → replicate (suc n) r ≡ replicate n r ++ (r ∷ [])
 same-last zero r = refl

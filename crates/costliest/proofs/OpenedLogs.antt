@@ -16,7 +16,7 @@ use Rattle.book.proofs.InvariantKept.{few-rows}
 use Rattle.book.proofs.LogBytes.{log-long}
 use Rattle.book.proofs.CostliestLogs.{costliest-log}
 use Rattle.tables_model.specs.declared.Scope.{Scope}
-use Rattle.state.specs.declared.answers.Result.{Result}
+use Rattle.state.specs.declared.answers.Reply.{Reply}
 use Rattle.state.specs.declared.ram.Fuse.TheVariants.{Left}
 use Rattle.state.specs.declared.ram.State.{State}
 use Rattle.state.specs.World.{World, world, closed_state}
@@ -44,7 +44,7 @@ reports n h x o =
     (record { lengths = rw size; pages = zeros-pass (costliest n); power = omega arith })
 
 -- what the public call promises of the buffers as they are lent
-pub opening_of_lem : (n : ℕ) → n ≤ cost_limit → (s : State) (log : List ℕ) (scopes : List Scope) (r : Result) (log' charts' copy' : List ℕ) (scopes' : List Scope)
+pub opening_of_lem : (n : ℕ) → n ≤ cost_limit → (s : State) (log : List ℕ) (scopes : List Scope) (r : Reply) (log' charts' copy' : List ℕ) (scopes' : List Scope)
     → s ≡ closed_state → log ≡ log_after n (replicate log_length 0) → scopes ≡ blanks
     → Opens (Left n) (world s log (replicate charts_length 0) (replicate charts_length 0) scopes) (returned r log' charts' copy' scopes') → OpeningResult n r
 opening_of_lem n h s log scopes r log' charts' copy' scopes' closed left_in blank o =

@@ -1,71 +1,44 @@
 // The argument of the program: for which n the log is asked for.
 ghost use Rattle.std.specs.Prelude.{◌≡◌};
-ghost use Rattle.costliest.specs.Argument.{next as next_of, asked};
-ghost use Rattle.costliest.specs.declared.argument.Asked.TheVariants.{Nothing, Number};
+ghost use Rattle.costliest.specs.Argument.{further as further_of, asked};
 
 use rows::limits::COST_LIMIT;
 
-// What the bytes so far ask for: none of them read yet, a number up to 2,048, or no such number.
+// The bytes are no number up to 2,048.
 #[derive(Clone, Copy)]
-pub enum Asked {
-    Nothing,
-    Number(usize),
-    Wrong,
-}
+pub struct NoNumber;
 
-fn first(b: u8) -> Asked
-    ensures { result ≡ next_of Nothing b }
+// The number after one more byte. A digit may follow others of which the first is not 0.
+fn further(before: Option<usize>, b: u8) -> Result<usize, NoNumber>
+    ensures { result ≡ further_of before b }
 {
-    if b < 48 {
-        return Asked::Wrong;
+    if !b.is_ascii_digit() {
+        return Err(NoNumber);
     }
-    if 57 < b {
-        return Asked::Wrong;
-    }
-    Asked::Number((b - 48) as usize)
-}
-
-// A digit after others, of which the first is not 0.
-fn further(n: usize, b: u8) -> Asked
-    ensures { result ≡ next_of (Number n) b }
-{
-    if b < 48 {
-        return Asked::Wrong;
-    }
-    if 57 < b {
-        return Asked::Wrong;
-    }
+    let digit = usize::from(b - b'0');
+    let Some(n) = before else {
+        return Ok(digit);
+    };
     if n == 0 {
-        return Asked::Wrong;
+        return Err(NoNumber);
     }
     if COST_LIMIT < n {
-        return Asked::Wrong;
+        return Err(NoNumber);
     }
-    let m = 10 * n + (b - 48) as usize;
+    let m = 10 * n + digit;
     if COST_LIMIT < m {
-        return Asked::Wrong;
+        return Err(NoNumber);
     }
-    Asked::Number(m)
+    Ok(m)
 }
 
-fn next(a: Asked, b: u8) -> Asked
-    ensures { result ≡ next_of a b }
-{
-    match a {
-        Asked::Nothing => first(b),
-        Asked::Number(n) => further(n, b),
-        Asked::Wrong => Asked::Wrong,
-    }
-}
-
-pub fn read_argument(text: &[u8]) -> Asked
+// The number that the bytes of an argument ask for, or none where there is no byte.
+pub fn read_argument(text: &[u8]) -> Result<Option<usize>, NoNumber>
     ensures { result ≡ asked text.now }
 {
-    let mut a = Asked::Nothing;
-    let mut k: usize = 0;
-    while k < text.len() {
-        a = next(a, text[k]);
-        k += 1;
+    let mut n = None;
+    for b in text {
+        n = Some(further(n, *b)?);
     }
-    a
+    Ok(n)
 }

@@ -4,7 +4,7 @@ ghost use Rattle.io.specs.Counts.{IsPrefixLen};
 ghost use Rattle.run_lines.specs.Output.{Written};
 ghost use Rattle.costliest.specs.Opened.{line_length, line_for};
 
-use run_lines::line::{put_decimal, put_value};
+use run_lines::line::Output;
 use state::answers::{Answer, value_of};
 
 // Room for any line: two numbers of ten digits, a sign, a space and the line's end.
@@ -15,8 +15,9 @@ pub fn put_line(out: &mut [u8], n: u16, answer: Answer) -> usize
     requires { line_length ≤ length out.old }
     ensures { Written out.old 0 (line_for n answer) result out.new × IsPrefixLen result out.new }
 {
-    let a = put_decimal(out, 0, n as u32);
-    let e = put_value(out, a, value_of(answer));
-    out[e] = b'\n';
-    e + 1
+    let mut output = Output { bytes: out, at: 0 };
+    output.put_decimal(u32::from(n));
+    output.put_value(value_of(answer));
+    output.put(b"\n");
+    output.at
 }

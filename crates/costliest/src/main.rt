@@ -12,35 +12,33 @@ ghost use Rattle.io.specs.Counts.{IsPrefixLen};
 ghost use Rattle.book.specs.Limits.{cost_limit};
 ghost use Rattle.costliest.specs.Opened.{line_length, OpeningResult, Told};
 
-use cores::entries::blank;
 use cores::ram::closed_state;
 use line::{LINE_LENGTH, put_line};
 use log::{write_asked, write_log};
-use rows::limits::{CHARTS_LENGTH, COST_LIMIT, LOG_LENGTH};
-use state::answers::Result;
+use rows::limits::{CHARTS_LENGTH, COST_LIMIT, LOG_LENGTH, SCOPE_LIMIT};
+use state::answers::Reply;
 use state::ram::Fuse;
 use std::env::{Env, FillError};
-use std::io::{Stderr, Stdout, Write};
+use std::io::{self, Stderr, Stdout, Write};
 use store::bridges::open_on;
+use tables_model::Scope;
 
 // A longer argument is no number up to 2,048.
 const ARGUMENT_LENGTH: usize = 8;
 
 // What an opening of the log of n rows comes to, beside charts of zeros and with power for n stored writes.
-fn opened(n: usize) -> Result
+fn opened(n: usize) -> Reply
     requires { n ≤ cost_limit }
     ensures { OpeningResult n result }
 {
     let mut log = [0u8; LOG_LENGTH];
     let mut charts = [0u8; CHARTS_LENGTH];
     let mut copy = [0u8; CHARTS_LENGTH];
-    write_log(&mut log, n);
-    let closed = closed_state();
-    let entries = blank();
+    let _ = write_log(&mut log, n);
+    let table = [Scope::default(); SCOPE_LIMIT];
     let fuse = Fuse::Left(n as u32);
-    let o = open_on(closed, &mut log, &mut charts, &mut copy, entries, fuse);
-    let r = o.result;
-    r
+    let state = closed_state();
+    open_on(state, &mut log, &mut charts, &mut copy, table, fuse).result
 }
 
 // The line of the opening for n. Gives its bytes.
@@ -48,35 +46,16 @@ fn tell(out: &mut [u8], n: usize) -> usize
     requires { (n ≤ cost_limit) × (line_length ≤ length out.old) }
     ensures { Told n out.old result out.new × IsPrefixLen result out.new }
 {
-    let r = opened(n);
-    let answer = r.answer;
-    put_line(out, n as u16, answer)
+    put_line(out, n as u16, opened(n).answer)
 }
 
-fn write_out(mut stdout: Stdout, mut stderr: Stderr, bytes: &[u8]) -> bool {
-    if stdout.write_all(bytes).is_ok() {
-        return true;
+fn print_openings(mut stdout: Stdout) -> io::Result<()> {
+    for n in 0..=COST_LIMIT {
+        let mut out = [0u8; LINE_LENGTH];
+        let length = tell(&mut out, n);
+        stdout.write_all(&out[..length])?;
     }
-    let _ = stderr.write_all(b"costliest: standard output cannot be written\n");
-    false
-}
-
-fn print_opening(stdout: Stdout, stderr: Stderr, n: usize) -> bool
-    requires { n ≤ cost_limit }
-{
-    let mut out = [0u8; LINE_LENGTH];
-    let length = tell(&mut out, n);
-    write_out(stdout, stderr, &out[..length])
-}
-
-fn print_openings(stdout: Stdout, stderr: Stderr) {
-    let mut n: usize = 0;
-    while n <= COST_LIMIT {
-        if !print_opening(stdout, stderr, n) {
-            return;
-        }
-        n += 1;
-    }
+    Ok(())
 }
 
 fn say_what_to_ask(mut stderr: Stderr) {
@@ -85,23 +64,25 @@ fn say_what_to_ask(mut stderr: Stderr) {
     );
 }
 
-// Whether the program got an argument i, of which 0 is its own name.
-fn is_given(env: &impl Env, i: usize) -> bool {
-    let mut text = [0u8; ARGUMENT_LENGTH];
-    match env.arg(i, &mut text) {
-        Ok(_) => true,
-        Err(FillError::TooLong) => true,
-        Err(FillError::NotPresent) => false,
+fn say_whether_printed(printed: io::Result<()>, mut stderr: Stderr) {
+    if printed.is_err() {
+        let _ = stderr.write_all(b"costliest: standard output cannot be written\n");
     }
 }
 
+// Whether the program got an argument i, of which 0 is its own name.
+fn is_given(env: &impl Env, i: usize) -> bool {
+    let mut text = [0u8; ARGUMENT_LENGTH];
+    !matches!(env.arg(i, &mut text), Err(FillError::NotPresent))
+}
+
 // An argument that is empty or too long for the buffer is read as no byte, which asks for no log.
-fn print_log(env: &impl Env, stdout: Stdout, stderr: Stderr) {
+fn print_log(env: &impl Env, mut stdout: Stdout, stderr: Stderr) {
     let mut text = [0u8; ARGUMENT_LENGTH];
     let length = env.arg(1, &mut text).unwrap_or(0);
     let mut log = [0u8; LOG_LENGTH];
-    if write_asked(&mut log, &text[..length]) {
-        write_out(stdout, stderr, &log);
+    if write_asked(&mut log, &text[..length]).is_ok() {
+        say_whether_printed(stdout.write_all(&log), stderr);
     } else {
         say_what_to_ask(stderr);
     }
@@ -109,7 +90,7 @@ fn print_log(env: &impl Env, stdout: Stdout, stderr: Stderr) {
 
 fn main(rt: HostRuntime) {
     if !is_given(&rt, 1) {
-        print_openings(rt.stdout(), rt.stderr());
+        say_whether_printed(print_openings(rt.stdout()), rt.stderr());
     } else if !is_given(&rt, 2) {
         print_log(&rt, rt.stdout(), rt.stderr());
     } else {

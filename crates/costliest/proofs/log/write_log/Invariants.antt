@@ -1,14 +1,10 @@
 -- `costliest::log::write_log` meets its contract. The loop's invariant: the log is that of the first k rows. Assumes nothing.
-use Prim.Native.Nat.{◌-◌, ◌≤◌}
+use Prim.Native.Nat.{◌≤◌}
 use mathlib.Core.Path.{◌≡◌}
-use lib.ListN.{length}
-use Rattle.book.specs.Limits.{cost_limit, log_length}
+use Rattle.book.specs.Limits.{cost_limit}
 use Rattle.book.specs.LogBytes.{log_bytes}
 use Rattle.book.specs.OpeningCost.{costliest}
 use Rattle.costliest.proofs.log.write_log.Given as goal
 
 abbrev pub invariant-loop-k : goal.invariant-loop-k
-invariant-loop-k l = (l.k ≤ l.n) × (l.n ≤ cost_limit) × (length l.log ≡ log_length) × (l.log ≡ log_bytes (costliest l.k))
-
-abbrev pub decreases-loop-k : goal.decreases-loop-k
-decreases-loop-k l = l.n - l.k
+invariant-loop-k l = (l.n ≤ cost_limit) × (l.log ≡ log_bytes (costliest l.k))
