@@ -1,7 +1,7 @@
--- A byte written, and text written after text. Assumes nothing.
+-- Text written after text. Assumes nothing.
 use mathlib.Core.Path.{◌≡◌, ap, sym, ◌∙◌}
 use mathlib.Core.List.{List, [], ◌∷◌, ◌++◌}
-use Prim.Native.Nat.{ℕ, suc, ◌+◌, ◌≤◌, ◌<◌}
+use Prim.Native.Nat.{ℕ, suc, ◌+◌, ◌≤◌}
 use native.Mathlib.Omega.{arith}
 use lib.ListN.{length, set, length-append}
 use lib.Seq.{sets, sets-eq, length-sets}
@@ -20,23 +20,19 @@ sets-append (x ∷ xs) ys out at =
     more : (i n : ℕ) → i + suc n ≡ suc i + n
     more i n = omega arith
 
-module _ (out : List ℕ) (at : ℕ) where
-  pub written_byte : (x : ℕ) → at < length out → Written out at (x ∷ []) (at + 1) (set out at x)
-  written_byte x h = record { place = omega arith; is = sets-eq (x ∷ []) out at (omega arith) }
-
-  -- text after text
-  pub written_after : (xs ys : List ℕ) {mid end : ℕ} {before after : List ℕ} → at + (length xs + length ys) ≤ length out
-      → Written out at xs mid before → Written before mid ys end after → Written out at (xs ++ ys) end after
-  written_after xs ys {mid} {end} {before} room v w =
-      let both = length-append xs ys in
-      let stored : before ≡ sets out at xs = v.is ∙ sym (sets-eq xs out at (omega arith)) in
-      let long : length before ≡ length out = ap length stored ∙ length-sets out at xs in
-      record {
-        place = omega arith;
-        is =
-            w.is ∙ sym (sets-eq ys before mid (omega arith)) ∙ rw (stored, v.place) (sets-append xs ys out at) ∙
-            sets-eq (xs ++ ys) out at (omega arith);
-      }
+-- text after text
+pub written_after : (out : List ℕ) (at : ℕ) (xs ys : List ℕ) {mid end : ℕ} {before after : List ℕ} → at + (length xs + length ys) ≤ length out
+    → Written out at xs mid before → Written before mid ys end after → Written out at (xs ++ ys) end after
+written_after out at xs ys {mid} {end} {before} room v w =
+    let both = length-append xs ys in
+    let stored : before ≡ sets out at xs = v.is ∙ sym (sets-eq xs out at (omega arith)) in
+    let long : length before ≡ length out = ap length stored ∙ length-sets out at xs in
+    record {
+      place = omega arith;
+      is =
+          w.is ∙ sym (sets-eq ys before mid (omega arith)) ∙ rw (stored, v.place) (sets-append xs ys out at) ∙
+          sets-eq (xs ++ ys) out at (omega arith);
+    }
 
 -- the same of an output
 pub puts_after : {o p q : Output} {xs ys : List ℕ} → Puts o xs p → Puts p ys q → Puts o (xs ++ ys) q
