@@ -1,4 +1,5 @@
-// What an accepted call does: the rows that it adds, the tables after them, and its stored writes.
+// What an accepted call does: the rows that it adds, the tables after them, and its stored writes. The work of each kind of call is inlined with `act`,
+// so that where one kind is asked for it stands in the caller, and is not called.
 ghost use Rattle.std.specs.Prelude.{◌≡◌, ℕ, ◌+◌, ◌-◌, ◌≤◌, ◌<◌, cond, List, leb, length};
 ghost use Rattle.book.specs.Calls.{Call};
 ghost use Rattle.book.specs.Limits.{visit_limit, page_limit, charts_length};
@@ -35,6 +36,7 @@ pub(crate) struct Acted {
 }
 
 // A begin is forced: a number that was given is in the log.
+#[inline(always)]
 fn begin(
     c: Control,
     t: Counts,
@@ -56,6 +58,7 @@ fn begin(
     }
 }
 
+#[inline(always)]
 fn change(
     c: Control,
     t: Counts,
@@ -80,6 +83,7 @@ fn change(
 }
 
 // One row, whatever the number of cells.
+#[inline(always)]
 fn hand_over_row(g: Visit, r: Visit, cells: CellSet) -> Row
     ensures { meant result ≡ handed_row g.0 r.0 cells }
 {
@@ -89,6 +93,7 @@ fn hand_over_row(g: Visit, r: Visit, cells: CellSet) -> Row
     }
 }
 
+#[inline(always)]
 fn hand_over(
     c: Control,
     t: Counts,
@@ -112,6 +117,7 @@ fn hand_over(
 }
 
 // A commit is forced.
+#[inline(always)]
 fn commit(
     c: Control,
     t: Counts,
@@ -135,6 +141,7 @@ fn commit(
 }
 
 // The visit's open changes fall; at most as many as there are rows. The abort row changes no cell, so that it is appended and not applied.
+#[inline(always)]
 fn abort(
     c: Control,
     t: Counts,
@@ -166,6 +173,7 @@ fn up_to_mark(c: Control, mark: Lsn) -> usize
 }
 
 // The rows up to the page's mark are stored, then the page.
+#[inline(always)]
 fn flush(
     c: Control,
     log: &mut [u8],

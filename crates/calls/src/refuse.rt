@@ -30,6 +30,7 @@ fn pass(test: bool, refusal: Refusal) -> Result<(), Refusal>
     if test { Ok(()) } else { Err(refusal) }
 }
 
+#[inline(always)]
 pub(crate) fn refuse_begin(t: Counts, scopes: &[u16], rows: usize) -> Result<(), Refusal>
     requires { Ranged t (length scopes.now) }
     ensures { (vs : List ℕ) → checked result ≡ refused_by (begin_refusal (index t vs scopes.now) rows) }
@@ -39,6 +40,7 @@ pub(crate) fn refuse_begin(t: Counts, scopes: &[u16], rows: usize) -> Result<(),
     pass(has_room(t, scopes, rows, 2), Refusal::NoRoom)
 }
 
+#[inline(always)]
 pub(crate) fn refuse_change(
     t: Counts,
     visits: &[u16],
@@ -67,6 +69,7 @@ fn cells_in_range(cs: CellSet) -> bool
 }
 
 // A hand-over of one cell, or of all.
+#[inline(always)]
 pub(crate) fn refuse_hand_over(
     t: Counts,
     visits: &[u16],
@@ -88,6 +91,7 @@ pub(crate) fn refuse_hand_over(
 }
 
 // Commit and abort: the visit is active.
+#[inline(always)]
 pub(crate) fn refuse_end(t: Counts, visits: &[u16], visit: Visit) -> Result<(), Refusal>
     requires { Listed (length visits.now) t.count }
     ensures { checked result ≡ refused_by ((9, not (is_listed (tables_in t visits.now) visit.0)) else 0) }
@@ -95,12 +99,14 @@ pub(crate) fn refuse_end(t: Counts, visits: &[u16], visit: Visit) -> Result<(), 
     pass(is_listed(t, visits, visit), Refusal::NotActive)
 }
 
+#[inline(always)]
 pub(crate) fn refuse_flush(page: u8) -> Result<(), Refusal>
     ensures { checked result ≡ refused_by ((14, not (ltb page page_limit)) else 0) }
 {
     pass(page < PAGES, Refusal::NoSuchPage)
 }
 
+#[inline(always)]
 pub(crate) fn refuse_read(cell: Cell) -> Result<(), Refusal>
     ensures { checked result ≡ refused_by ((10, not (is_cell cell.0)) else 0) }
 {

@@ -1,4 +1,5 @@
 mod Crossings
+mod Made
 mod Lengths
 mod Openings
 mod Performing

@@ -1,10 +1,12 @@
 // The scope table and the active visits between their structs, as the host has them, and their flat forms, in which the calls work on them in place.
+// Each table has a pair of functions of its own: a trait for both, with its laws, would be longer than they are.
 ghost use Rattle.std.specs.Prelude.{◌≡◌, map, length};
 ghost use Rattle.tables_model.specs.Entries.{scope_in};
 ghost use Rattle.tables_model.specs.Layout.{flat_length, entries, visits_length, actives};
 ghost use Rattle.tables_model.specs.Meaning.{scope_of};
 
 use rows::limits::{ACTIVE_LIMIT, SCOPE_LIMIT};
+use std::array;
 use tables::entries::{entry_at, put_entry};
 use tables::visits::{active_at, put_active};
 use tables_model::{Active, Scope};
@@ -22,11 +24,7 @@ pub fn table_from(f: &[u16]) -> [Scope; SCOPE_LIMIT]
     requires { length f.now ≡ flat_length }
     ensures { result ≡ map scope_of (entries f.now) }
 {
-    let mut t = [Scope::default(); SCOPE_LIMIT];
-    for i in 0..SCOPE_LIMIT {
-        t[i] = entry_at(f, i);
-    }
-    t
+    array::from_fn(|i| entry_at(f, i))
 }
 
 pub fn visits_into(active: [Active; ACTIVE_LIMIT], f: &mut [u16])
@@ -42,9 +40,5 @@ pub fn visits_from(f: &[u16]) -> [Active; ACTIVE_LIMIT]
     requires { length f.now ≡ visits_length }
     ensures { result ≡ actives f.now }
 {
-    let mut active = [Active::default(); ACTIVE_LIMIT];
-    for i in 0..ACTIVE_LIMIT {
-        active[i] = active_at(f, i);
-    }
-    active
+    array::from_fn(|i| active_at(f, i))
 }

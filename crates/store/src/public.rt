@@ -1,4 +1,5 @@
 // The public calls: a store is formatted, opened, and then asked. Each loads the lent table, has its core work on that, and stores it again.
+// Each names its core, since the caller of a closure over the lent bytes is not told what it leaves in them.
 ghost use Rattle.state.specs.CallContracts.{returned};
 ghost use Rattle.state.specs.Functions.{Formats, Opens, Calls};
 ghost use Rattle.state.specs.World.{world};

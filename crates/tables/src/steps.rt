@@ -32,6 +32,7 @@ fn after_undo(t: Counts, visits: &mut [u16], scopes: &mut [u16], h: Visit, befor
 }
 
 // A commit or an abort.
+#[inline(always)]
 pub fn after_end(t: Counts, visits: &mut [u16], scopes: &mut [u16], v: Visit) -> Counts
     requires { Ready t (length visits.old) (length scopes.old) }
     ensures { index result visits.new scopes.new ≡ after_end (index t visits.old scopes.old) v.0 }
