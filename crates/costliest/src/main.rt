@@ -19,7 +19,8 @@ use rows::limits::{CHARTS_LENGTH, COST_LIMIT, LOG_LENGTH, SCOPE_LIMIT};
 use state::answers::Reply;
 use state::ram::Fuse;
 use std::env::{Env, FillError};
-use std::io::{self, Stderr, Stdout, Write};
+use std::io;
+use std::io::{Stderr, Stdout, Write};
 use store::bridges::open_on;
 use tables_model::Scope;
 

@@ -3,7 +3,8 @@ ghost use Rattle.std.specs.Prelude.{◌≡◌};
 ghost use Rattle.book.specs.Writes.{Few};
 ghost use Rattle.state.specs.Answers.{number_and_value, rows_and_pages};
 ghost use Rattle.journal.specs.Outcomes.{Bounded};
-ghost use Rattle.embed_model.specs.Head.{control_by, counts_by, head_of};
+ghost use Rattle.embed_model.specs.Arrays.{is_set, fuse_by};
+ghost use Rattle.embed_model.specs.Head.{kind_number, left_number, control_by, counts_by, head_of};
 ghost use Rattle.embed_model.specs.Packed.{answer_in, writes_in};
 
 use crate::packed::packed;
@@ -12,6 +13,16 @@ use state::ram::{Fuse, Phase};
 use tables_model::Counts;
 
 pub(crate) const HEAD_LENGTH: usize = 8;
+
+fn fuse_by(kind: u32, left: u32) -> Fuse
+    ensures { result ≡ fuse_by (is_set kind) left }
+{
+    if kind == 0 {
+        Fuse::Unlimited
+    } else {
+        Fuse::Left(left)
+    }
+}
 
 // Where the journal stands.
 pub(crate) fn control_in(head: &[u32; HEAD_LENGTH]) -> Control
@@ -23,11 +34,7 @@ pub(crate) fn control_in(head: &[u32; HEAD_LENGTH]) -> Control
         } else {
             Phase::Open
         },
-        fuse: if head[1] == 0 {
-            Fuse::Unlimited
-        } else {
-            Fuse::Left(head[2])
-        },
+        fuse: fuse_by(head[1], head[2]),
         stored: head[3] as usize,
         waiting: head[4] as usize,
     }
@@ -44,14 +51,21 @@ pub(crate) fn counts_in(head: &[u32; HEAD_LENGTH]) -> Counts
     }
 }
 
+// The kind of a fuse, and the stored writes that still land.
+fn fuse_numbers(f: Fuse) -> (u32, u32)
+    ensures { (result.0 ≡ kind_number f) × (result.1 ≡ left_number f) }
+{
+    match f {
+        Fuse::Unlimited => (0, 0),
+        Fuse::Left(n) => (1, n),
+    }
+}
+
 fn put_head(head: &mut [u32; HEAD_LENGTH], c: Control, t: Counts)
     requires { Bounded c t }
     ensures { (head.new ≡ head_of c t) × (counts_by head.new ≡ t) }
 {
-    let (kind, left) = match c.fuse {
-        Fuse::Unlimited => (0, 0),
-        Fuse::Left(n) => (1, n),
-    };
+    let (kind, left) = fuse_numbers(c.fuse);
     *head = [
         u32::from(c.phase == Phase::Open),
         kind,

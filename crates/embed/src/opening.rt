@@ -63,10 +63,8 @@ pub(crate) fn open(
         visits,
         scopes,
     };
-    finish(
-        head,
-        recovery::open::open(Fuse::from(fuse), log, charts, ram),
-    )
+    let r = recovery::open::open(Fuse::from(fuse), log, charts, ram);
+    finish(head, r)
 }
 
 pub(crate) fn redo_page(log: &[u8], page: &mut [u8], number: u8) -> u64

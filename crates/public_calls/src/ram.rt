@@ -21,35 +21,39 @@ pub(crate) fn state_in(
     visits: [u16; VISITS_LENGTH],
     tail: [u8; TAIL_LENGTH],
 ) -> State {
-    let [phase, kind, left, stored, waiting, begun, count, used] = head;
     State {
-        phase: if phase == 0 {
+        phase: if head[0] == 0 {
             Phase::Closed
         } else {
             Phase::Open
         },
-        fuse: fuse_by(kind != 0, (left & 0xffff_ffff) as u32),
-        stored: stored as usize,
-        waiting: waiting as usize,
+        fuse: fuse_by(head[1] != 0, (head[2] & 0xffff_ffff) as u32),
+        stored: head[3] as usize,
+        waiting: head[4] as usize,
         tables: Tables {
-            begun: (begun & 0xffff) as u16,
+            begun: (head[5] & 0xffff) as u16,
             active: visits_from(&visits),
-            count: count as usize,
-            used: used as usize,
+            count: head[6] as usize,
+            used: head[7] as usize,
         },
         tail,
     }
 }
 
-pub(crate) fn head_of(s: State) -> [u64; HEAD_LENGTH] {
-    let (kind, left) = match s.fuse {
+// The kind of a fuse, and the stored writes that still land.
+fn fuse_numbers(f: Fuse) -> (u32, u32) {
+    match f {
         Fuse::Unlimited => (0, 0),
-        Fuse::Left(n) => (1, u64::from(n)),
-    };
+        Fuse::Left(n) => (1, n),
+    }
+}
+
+pub(crate) fn head_of(s: State) -> [u64; HEAD_LENGTH] {
+    let (kind, left) = fuse_numbers(s.fuse);
     [
         u64::from(s.phase == Phase::Open),
-        kind,
-        left,
+        u64::from(kind),
+        u64::from(left),
         s.stored as u64,
         s.waiting as u64,
         u64::from(s.tables.begun),

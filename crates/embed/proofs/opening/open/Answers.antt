@@ -24,4 +24,4 @@ returns c =
     let long : RamLengths given = search rules in
     let fit : eqb (length c.args.log.now) log_length && eqb (length c.args.charts.now) charts_length ≡ true = sym c.stored_fit.ensures ∙ c.if-not-stored_fit.false in
     let e = c.finish.ensures in
-    opening _ _ c.from.ensures given (right-stored given long fit) (λ i. omega (arith, c.type_inv.charts i)) _ _ _ _ _ _ _ c.open.ensures e.1 e.2 (search rules) _ e.0
+    opening _ _ c.from.ensures given (right-stored given long fit) (λ i. omega (arith, c.type_inv.charts i)) _ _ _ _ _ _ _ c.open-r.ensures e.1 e.2 (search rules) _ e.0
