@@ -74,7 +74,10 @@ fn shift(tail: &mut [u8], m: usize, waiting: usize)
     let gap = ROW_LENGTH * m;
     let end = ROW_LENGTH * waiting;
     let keep = end - gap;
-    tail.copy_within(gap..end, 0);
+    // Moved by a loop: copy_within gets its range's ends as Bound<&usize>, and tools/unit refuses a function that gives back a number and a pointer.
+    for i in 0..keep {
+        tail[i] = tail[i + gap];
+    }
     tail[keep..end].fill(0);
 }
 

@@ -1,6 +1,6 @@
 use mathlib.Core.Path.{◌≡◌}
 use Prim.Native.Nat.{◌+◌, ◌-◌, ◌*◌}
-use lib.ListN.{length, drop}
+use lib.ListN.{drop}
 use Rattle.journal.specs.Force.{runs, chunks}
 use Rattle.journal.proofs.force.store_tail.Given as goal
 
