@@ -62,7 +62,7 @@ fn settle(
 {
     let Acted { control, counts } = a;
     let rows = control.stored.saturating_sub(before);
-    if control.phase == Phase::Closed {
+    if let Phase::Closed = control.phase {
         let ram = Ram {
             copy,
             tail,

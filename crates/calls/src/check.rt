@@ -32,7 +32,7 @@ fn is_coherent(c: Control, t: Counts) -> bool
 fn is_ready(c: Control, t: Counts) -> bool
     ensures { (vs : List ℕ) → result ≡ (is_open_phase c.phase && is_coherent c (tables_in t vs)) }
 {
-    c.phase == Phase::Open && is_coherent(c, t)
+    matches!(c.phase, Phase::Open) && is_coherent(c, t)
 }
 
 // `Ok` where no check refuses the request. It is inlined, so that a caller with one kind of request has the checks of that kind alone.

@@ -67,7 +67,7 @@ fn put_head(head: &mut [u32; HEAD_LENGTH], c: Control, t: Counts)
 {
     let (kind, left) = fuse_numbers(c.fuse);
     *head = [
-        u32::from(c.phase == Phase::Open),
+        u32::from(matches!(c.phase, Phase::Open)),
         kind,
         left,
         c.stored as u32,

@@ -11,7 +11,7 @@ use Rattle.charts.specs.Build.{from_cells}
 use Rattle.state.specs.CallContracts.{bad_cell, cells_of}
 use Rattle.recovery_model.specs.Charts.{below}
 use Rattle.recovery_model.specs.Answering.{formatted_as, format_bytes}
-use Rattle.recovery.proofs.Searches.{below-Some, below-None, first-position}
+use Rattle.recovery.proofs.Searches.{below-Some, below-None}
 
 -- page p of the values
 abbrev pub page_of_cells : List ℤ → ℕ → List ℕ
@@ -35,16 +35,12 @@ charts-same cells =
 
 -- ── A cell out of range ───────────────────────────────────────────────────────────────────────────────────────────────
 
-module _ (cells : List ℤ) (long : length cells ≡ 224) where
-  -- the search over the cells, by the book's number
-  searched : position (λ z. not (within format_bound z)) cells ≡ below 224 (bad_cell cells)
-  searched = first-position (within format_bound) (pos 0) 224 cells long
+module _ (cells : List ℤ) where
+  pub cell-found : (i : ℕ) → Some i ≡ below 224 (bad_cell cells) → (bad_cell cells < 224) × (bad_cell cells ≡ i)
+  cell-found i e = below-Some 224 (bad_cell cells) i (sym e)
 
-  pub cell-found : (i : ℕ) → Some i ≡ position (λ z. not (within format_bound z)) cells → (bad_cell cells < 224) × (bad_cell cells ≡ i)
-  cell-found i e = below-Some 224 (bad_cell cells) i (sym (e ∙ searched))
-
-  pub no-cell-found : None ≡ position (λ z. not (within format_bound z)) cells → 224 ≤ bad_cell cells
-  no-cell-found e = below-None 224 (bad_cell cells) (sym (e ∙ searched))
+  pub no-cell-found : None ≡ below 224 (bad_cell cells) → 224 ≤ bad_cell cells
+  no-cell-found e = below-None 224 (bad_cell cells) (sym e)
 
 -- ── What format leaves ────────────────────────────────────────────────────────────────────────────────────────────────
 

@@ -22,14 +22,3 @@ below-None limit n = go (ltb n limit) refl
     go : (t : Bool) → ltb n limit ≡ t → cond t (Some n) None ≡ None → limit ≤ n
     go true e f = cc
     go false e f = ltb-false n limit e
-
--- the place of the first of a list that fails a test
-pub first-position : {A : Type 0} (test : A → Bool) (d : A) (limit : ℕ) (xs : List A) → length xs ≡ limit
-    → position (λ x. not (test x)) xs ≡ below limit (first_failing limit 0 (λ i. test (get_or xs i d)))
-first-position test d limit xs h =
-    let n = position_or_len (λ x. not (test x)) xs in
-    let first : first_failing (length xs) 0 (λ i. test (get_or xs i d)) ≡ 0 + n =
-    first-is (length xs) 0 n (λ i. test (get_or xs i d)) (prefix_len-le-length _ xs)
-    (λ i l. rw (zero-add i) (not-false _ (fails_before_first (λ x. not (test x)) xs i d l)))
-    (λ l. rw (zero-add n) (not-true _ (passes_at_first (λ x. not (test x)) xs d l))) in
-    rw (← h) (ap (below (length xs)) (sym (first ∙ zero-add n)))

@@ -1,9 +1,10 @@
 // Format: charts from the values of the cells, and an empty log; for whatever values it is handed.
-ghost use Rattle.std.specs.Prelude.{◌≡◌, [], length, not, position};
+ghost use Rattle.std.specs.Prelude.{◌≡◌, [], length};
 ghost use Rattle.book.specs.Limits.{format_bound, log_length, charts_length, cell_limit};
 ghost use Rattle.book.specs.Numbers.{within};
 ghost use Rattle.book.specs.Pages.{chart_bytes, page_after};
-ghost use Rattle.state.specs.CallContracts.{cells_of};
+ghost use Rattle.state.specs.CallContracts.{bad_cell, cells_of};
+ghost use Rattle.recovery_model.specs.Charts.{below};
 ghost use Rattle.recovery_model.specs.Answering.{formatted_as, format_bytes};
 
 use charts::page::build_page;
@@ -21,11 +22,17 @@ fn is_format(z: i32) -> bool
     (-FORMAT_BOUND..=FORMAT_BOUND).contains(&z)
 }
 
-// The first cell that is not.
+// The first cell that is not. An iterator would hand over an Option of a reference at each step, which lies otherwise in memory with the unit's pointers.
 fn bad_cell(cells: &[i32]) -> Option<usize>
-    ensures { result ≡ position (λ z. not (within format_bound z)) cells.now }
+    requires { length cells.now ≡ cell_limit }
+    ensures { result ≡ below cell_limit (bad_cell cells.now) }
 {
-    cells.iter().position(|z| !is_format(*z))
+    for c in 0..CELL_LIMIT {
+        if !is_format(cells[c]) {
+            return Some(c);
+        }
+    }
+    None
 }
 
 // Charts of the cells, marks 0.

@@ -21,5 +21,6 @@ pub enum Request {
 pub fn is_typed(request: Request)
     ensures { Typed (call_of request) }
 {
-    if let Request::Change(_, _, _a) = request {}
+    // The name of the amount has its proof look there.
+    if let Request::Change(_, _, _amount) = request {}
 }

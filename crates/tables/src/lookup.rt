@@ -62,7 +62,7 @@ fn last_by(t: &[u16], i: usize, w: Whom) -> u16
 }
 
 // The entry with the highest open change of these visits. The loop keeps the change and the entry as two numbers, none as a change of 0: an Option in their
-// place took a third more instructions.
+// place takes a third more instructions.
 #[tactic(auto, unfolding(tables_model::specs::Table::highest), using(crate::proofs::Loops::left_end))]
 pub fn highest(t: &[u16], used: usize, w: Whom) -> Option<usize>
     requires { Sized (length t.now) used }

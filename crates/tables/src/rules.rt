@@ -90,7 +90,7 @@ pub fn may_abort(t: Counts, visits: &[u16], scopes: &[u16], v: Visit) -> bool
     requires { Ready t (length visits.now) (length scopes.now) }
     ensures { result ≡ may_abort (index t visits.now scopes.now) v.0 }
 {
-    is_listed(t, visits, v) && highest_of(t, scopes, v) == Lsn(0)
+    is_listed(t, visits, v) && highest_of(t, scopes, v).0 == 0
 }
 
 // The visit's number is the next one.

@@ -54,7 +54,7 @@ pub fn undo_at(t: &mut [u16], i: usize, before: Lsn)
 }
 
 // The entries that another visit holds close ranks; one that keeps its place is not written again. Returns how many they are; what stands behind them is not
-// said. The loop is that of `visits::close_ranks`: a trait over entries and visits would be longer than both, with its members and laws for each.
+// said. The loop is like that of `visits::close_ranks`, which writes a visit again that keeps its place: a trait over both would be longer than they are.
 fn close_ranks(t: &mut [u16], used: usize, v: Visit) -> usize
     requires { Sized (length t.old) used }
     ensures { ClosedRanks used v.0 (entries_of t.old) (scopes_in result t.new) }

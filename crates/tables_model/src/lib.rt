@@ -49,8 +49,7 @@ pub enum Whom {
     All,
 }
 
-// The cells that a hand-over is about: one, or all. It is no generic type with `Whom`: the tests of both are stated of numbers, of a visit and of a cell, and
-// would be stated of the equality of its bound.
+// The cells that a hand-over is about: one, or all. It is no generic type with `Whom`, since the definitions speak of the numbers of cells and of visits.
 #[derive(Clone, Copy)]
 pub enum CellSet {
     Only(Cell),

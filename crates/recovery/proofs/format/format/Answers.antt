@@ -11,10 +11,10 @@ returns-then-cells-ne-CELL_LIMIT c = rw (ne_eqb _ _ c.if-cells-ne-CELL_LIMIT.tru
 pub returns-in-Some : goal.returns-in-Some
 unfolding format_bytes
 returns-in-Some c =
-    let k = cell-found _ c.if-cells-ne-CELL_LIMIT.false c.in-Some.c c.in-Some.ensures in
+    let k = cell-found _ c.in-Some.c c.in-Some.ensures in
     rw (eq-eqb _ _ c.if-cells-ne-CELL_LIMIT.false, lt-ltb _ _ k.0, k.1)
 
 pub returns : goal.returns
 returns c =
     let long = c.if-cells-ne-CELL_LIMIT.false in
-    rw (no_rows _ _ (c.fill.ensures.after (λ y e. e)) c.requires.0, c.build_charts.ensures) (sym (formatted-done _ _ _ long (no-cell-found _ long c.in_default.ensures)))
+    rw (no_rows _ _ (c.fill.ensures.after (λ y e. e)) c.requires.0, c.build_charts.ensures) (sym (formatted-done _ _ _ long (no-cell-found _ c.in_default.ensures)))
