@@ -1,9 +1,8 @@
 -- What format leaves: the pages that it builds are the book's pages of no rows, and the zeros of the log are its bytes of no rows. Assumes nothing.
-use Rattle.std.proofs.Common.{◌≡◌, ℕ, ◌*◌, ◌<◌, ◌≤◌, List, [], ◌++◌, length, take, drop, replicate, ℤ, pos, not, position, Some, None, Ok, sym, ap, ◌∙◌, arith, get_or-drop, get_or-take, le-ltb, eq-eqb}
+use Rattle.std.proofs.Common.{◌≡◌, ℕ, ◌*◌, ◌<◌, ◌≤◌, List, [], ◌++◌, length, take, drop, replicate, ℤ, pos, Some, None, Ok, sym, ap, ◌∙◌, arith, get_or-drop, get_or-take, le-ltb, eq-eqb}
 use lib.IntN.{+ℤ_idr}
 use Rattle.book.specs.Lists.{tabulate, join}
-use Rattle.book.specs.Limits.{format_bound}
-use Rattle.book.specs.Numbers.{le, bits_of, within}
+use Rattle.book.specs.Numbers.{le, bits_of}
 use Rattle.book.specs.Pages.{page_bytes, chart_bytes, page_after}
 use Rattle.book.proofs.Blocks.{tabulate-same}
 use Rattle.book.specs.LogBytes.{log_bytes}

@@ -1,11 +1,6 @@
 -- What a search that may find nothing gives, by the number that stands for it where nothing is found: the limit. Assumes nothing.
-use Rattle.std.proofs.Common.{◌≡◌, ℕ, ◌+◌, ◌≤◌, ◌<◌, Bool, true, false, cond, not, Some, None, List, length, get_or, position, ltb, refl, ap, sym, ◌∙◌, zero-add, ltb-true, ltb-false}
-use Rattle.std.specs.List.{position_or_len}
-use Rattle.std.proofs.lemmas.Bool.{not-true, not-false}
-use Rattle.std.proofs.lemmas.List.Sums.{prefix_len-le-length, fails_before_first, passes_at_first}
-use Rattle.book.specs.Lists.{first_failing}
+use Rattle.std.proofs.Common.{◌≡◌, ℕ, ◌≤◌, ◌<◌, Bool, true, false, cond, Some, None, ltb, refl, ltb-true, ltb-false}
 use Rattle.recovery_model.specs.Charts.{below}
-use Rattle.recovery_model.proofs.PageAlone.{first-is}
 
 -- it found the number
 pub below-Some : (limit n i : ℕ) → below limit n ≡ Some i → (n < limit) × (n ≡ i)
