@@ -32,7 +32,8 @@ Rules for the processor
 How it is decided
     A line that has none of the forms listed here is refused. A place is an alloca, what a parameter points to, or what a loaded pointer points to. Places that
     can be the same memory, since a pointer to the one is passed or kept for the other, are joined at a known distance, in whatever order the steps come; what
-    is said of a byte then holds in all of them and, over copies, of the byte at the other end.
+    is said of a byte then holds in all of them and, over copies, of the byte at the other end. A comparison is gone through anew for each of its calls, as if it
+    stood there.
 
 What is not claimed
     Anything of a run that is undefined with pointers of 8 bytes, as one that goes beyond an array; in an alloca, where the offset is known, that is refused
@@ -91,10 +92,12 @@ OUTSIDE = re.compile(
     r'''
     (?:;.*)?
     | source_filename\ =\ "rattle"
-    | declare\ void\ @llvm\.memmove\.p0\.p0\.i64\(ptr\ writeonly\ captures\(none\),\ ptr\ readonly\ captures\(none\),\ i64,\ i1\ immarg\)\ \#[12]
-    | declare\ void\ @llvm\.memset\.p0\.i64\(ptr\ writeonly\ captures\(none\),\ i8,\ i64,\ i1\ immarg\)\ \#[12]
-    | attributes\ \#0\ =\ {\ nounwind\ "probe-stack"="inline-asm"\ "stack-probe-size"="3072"\ "target-cpu"="x86-64"\ }
-    | attributes\ \#[12]\ =\ {\ nocallback\ nofree\ nounwind\ willreturn\ memory\(argmem:\ (?:readwrite|write)\)\ }
+    | declare\ void\ @llvm\.memmove\.p0\.p0\.i64\(ptr\ writeonly\ captures\(none\),\ ptr\ readonly\ captures\(none\),\ i64,\ i1\ immarg\)\ \#[3-9]
+    | declare\ void\ @llvm\.memset\.p0\.i64\(ptr\ writeonly\ captures\(none\),\ i8,\ i64,\ i1\ immarg\)\ \#[3-9]
+    | declare\ void\ @llvm\.trap\(\)\ \#[3-9]
+    | attributes\ \#[012]\ =\ {\ (?:alwaysinline\ |inlinehint\ )?nounwind\ "probe-stack"="inline-asm"\ "stack-probe-size"="3072"\ "target-cpu"="x86-64"\ }
+    | attributes\ \#[3-9]\ =\ {\ cold\ noreturn\ nounwind\ memory\(inaccessiblemem:\ write\)\ }
+    | attributes\ \#[3-9]\ =\ {\ nocallback\ nofree\ nounwind\ willreturn\ memory\(argmem:\ (?:readwrite|write)\)\ }
     | !llvm\.ident\ =\ !{!0}
     | !\d+\ =\ !{(?:!"rattle\ logic=[0-9a-f]+"|i8\ \d+,\ i8\ \d+)?}
     ''',
@@ -102,7 +105,7 @@ OUTSIDE = re.compile(
 )
 
 PAIR = r'{ (?:ptr, i64|(?:i8|i16|i32|i64), (?:i8|i16|i32|i64)) }'
-HEAD = re.compile(rf'define (internal )?(?:(void)|(?:noundef )?(?:(zeroext) )?({NUMBER}|{PAIR})) ({FUNCTION})\((.*)\) #0 {{')
+HEAD = re.compile(rf'define (internal )?(?:(void)|(?:noundef )?(?:(zeroext) )?({NUMBER}|{PAIR})) ({FUNCTION})\((.*)\) #[012] {{')
 PARAMETER = re.compile(rf'(ptr(?= noundef)|{NUMBER}) (?:noundef )?(?:(zeroext) )?({REGISTER})')
 
 # Forms in which no pointer takes part.
@@ -112,11 +115,11 @@ NUMBERS_ONLY = re.compile(
     | {REGISTER}\ =\ (?:zext|sext|trunc(?:\ nuw)?(?:\ nsw)?)\ {NUMBER}\ {OPERAND}\ to\ {NUMBER}
     | br\ {LABEL} | br\ i1\ {OPERAND},\ {LABEL},\ {LABEL}
     | switch\ {NUMBER}\ {OPERAND},\ {LABEL}\ \[ | {NUMBER}\ -?\d+,\ {LABEL} | \]
-    | ret\ void | ret\ {NUMBER}\ {OPERAND} | unreachable
+    | ret\ void | ret\ {NUMBER}\ {OPERAND} | unreachable | call\ void\ @llvm\.trap\(\)
     ''',
     re.X,
 )
-BLOCK = re.compile(r'[\w.]+:(?: +; preds = .*)?')
+BLOCK = re.compile(r'[\w.]+:(?: +; (?:preds = .*|No predecessors!))?')
 
 ALLOCA = re.compile(rf'({REGISTER}) = alloca (?:\[(\d+) x i8\]|({STORED})), align ([1248])')
 ADDRESS = re.compile(rf'({REGISTER}) = getelementptr (?:inbounds nuw )?i8, ptr ({REGISTER}), i64 (?:(\d+)|{REGISTER})')
@@ -129,6 +132,8 @@ LOAD_PAIR = re.compile(rf'({REGISTER}) = load ({PAIR}), ptr ({REGISTER}), align 
 PART = re.compile(rf'({REGISTER}) = extractvalue ({PAIR}) ({REGISTER}), ([01])')
 IS_NULL = re.compile(rf'{REGISTER} = icmp eq ptr ({REGISTER}), null')
 GIVE_BACK = re.compile(rf'ret ({PAIR}) ({REGISTER})')
+# A comparison. It is lent values by their addresses wherever they lie, in a struct and alone: so its places are not one for all of its calls.
+COMPARISON = re.compile(r'@"[^"\\]+::\w*Partial(?:Eq|Ord)::\w+(?:::<[^"\\]*>)?"')
 ARGUMENT = re.compile(rf'(?:(ptr) ({REGISTER})|({NUMBER}) {OPERAND})')
 
 # `core::ptr::copy_drop::copy_bits` of bytes, by its lines: the one function that compares pointers, and copies as many bytes as a register says.
@@ -592,10 +597,19 @@ class Reader:
         self.calls[self.function.name].setdefault(name, line)
         if result.startswith('{'):
             self.pairs[register] = result, (('result', name), 0)
+        name = self.read_here(callee, line) if COMPARISON.fullmatch(name) else name
         for k, argument in enumerate(arguments):
             if argument[1]:
                 address = self.start(self.address(argument[2], line), ('passed', self.function.name, line, k), line)
                 self.places.join(address, (('parameter', name, k), 0), line)
+
+    def read_here(self, callee, line):
+        """Reads a function as if it stood at the call, with places of its own. Gives the name under which these are known."""
+        name = f'{callee.name}, called in line {line} of {self.function.name}'
+        outer = self.function, self.blocks, self.pointers, self.pairs
+        self.read(Function(name, callee.line, False, callee.result, callee.parameters, callee.body))
+        self.function, self.blocks, self.pointers, self.pairs = outer
+        return name
 
 
 # ── What must hold of all places, and of all calls ────────────────────────────────────────────────────────────────────

@@ -93,13 +93,14 @@ define internal void @"m::copy_bits"(ptr noundef %a0, ptr noundef %a1, i64 nound
 {check_ir.COPY_BITS.strip().replace('!range !', '!range !2').replace('!noundef !', '!noundef !1')}
 }}
 
-declare void @llvm.memmove.p0.p0.i64(ptr writeonly captures(none), ptr readonly captures(none), i64, i1 immarg) #1
+declare void @llvm.memmove.p0.p0.i64(ptr writeonly captures(none), ptr readonly captures(none), i64, i1 immarg) #3
 
-declare void @llvm.memset.p0.i64(ptr writeonly captures(none), i8, i64, i1 immarg) #2
+declare void @llvm.memset.p0.i64(ptr writeonly captures(none), i8, i64, i1 immarg) #4
 
 attributes #0 = {{ nounwind "probe-stack"="inline-asm" "stack-probe-size"="3072" "target-cpu"="x86-64" }}
-attributes #1 = {{ nocallback nofree nounwind willreturn memory(argmem: readwrite) }}
-attributes #2 = {{ nocallback nofree nounwind willreturn memory(argmem: write) }}
+attributes #1 = {{ alwaysinline nounwind "probe-stack"="inline-asm" "stack-probe-size"="3072" "target-cpu"="x86-64" }}
+attributes #3 = {{ nocallback nofree nounwind willreturn memory(argmem: readwrite) }}
+attributes #4 = {{ nocallback nofree nounwind willreturn memory(argmem: write) }}
 
 !1 = !{{}}
 !2 = !{{i8 0, i8 2}}
@@ -381,7 +382,7 @@ REPLACED = {
         (OUTER, OUTER.replace('@chart_outer', '@__aeabi_memmove')),
         (KEEP, KEEP.replace('internal', 'internal fastcc')),
         (KEEP, KEEP.replace('#0', '#0 align 16')),
-        (KEEP, KEEP.replace('#0', '#1')),
+        (KEEP, KEEP.replace('#0', '#3')),
         (KEEP, KEEP.replace('ptr noundef %a1)', 'ptr noundef %a1, ...)')),
         (KEEP, KEEP.replace('ptr noundef %a1)', 'ptr noundef %a1, i128 noundef %a2)')),
         (KEEP, KEEP.replace('ptr noundef %a1)', 'ptr noundef %a1, double noundef %a2)')),
