@@ -2,7 +2,7 @@
 # Writes target/unit/libembed-thumbv6m.a and target/unit/include/chart_store.h: the functions for C on a Cortex-M0 (ARMv6-M, AAPCS).
 #
 # They are compiled from the module that the proved archive for x86-64 was compiled from: with the kit's own words for clang it gives that archive byte for byte. Nothing in it is changed but the
-# three lines that name x86-64, and the two that take addresses for a comparison, and check_ir.py refuses it where its meaning could depend on the size of a pointer. The archive is outside the proof
+# lines that name x86-64, and the two that take addresses for a comparison, and check_ir.py refuses it where its meaning could depend on the size of a pointer. The archive is outside the proof
 # all the same: besides what is trusted for x86-64, trusted are this change of target, check_ir.py and LLVM's back end for ARM.
 #
 # `rt lib` proves the crate over what was proved before; from nothing that takes some minutes. The variable OPT has the level of optimisation; -O3 is that of the proved archive.
@@ -71,11 +71,11 @@ compile() {
     (cd "$out" && "$clang" "${words[@]}")
 }
 
-# change FROM TO: in the module for the unit, where FROM is in one line.
+# change FROM TO [N]: in the module for the unit, where FROM is in one line, or in N.
 change() {
     local lines
     lines=$(grep -cF -- "$1" "$out/thumbv6m.ll") || true
-    [ "$lines" -eq 1 ] || stop "$lines lines of the module have, and one was expected to have: $1"
+    [ "$lines" -eq "${3:-1}" ] || stop "$lines lines of the module have, and ${3:-1} were expected to have: $1"
     FROM=$1 TO=$2 awk 'at = index($0, ENVIRON["FROM"]) { $0 = substr($0, 1, at - 1) ENVIRON["TO"] substr($0, at + length(ENVIRON["FROM"])) } { print }' "$out/thumbv6m.ll" >"$out/changed.ll"
     mv "$out/changed.ll" "$out/thumbv6m.ll"
 }
@@ -100,7 +100,8 @@ cp "$out/module.ll" "$out/thumbv6m.ll"
 change 'target datalayout = "e-m:e-p270:32:32-p271:32:32-p272:64:64-i64:64-i128:128-f80:128-n8:16:32:64-S128"' \
     'target datalayout = "e-m:e-p:32:32-Fi8-i64:64-v128:64:128-a:0:32-n32-S64"'
 change 'target triple = "x86_64-unknown-linux-gnu"' 'target triple = "thumbv6m-unknown-none-eabi"'
-change '"probe-stack"="inline-asm" "stack-probe-size"="3072" "target-cpu"="x86-64"' '"target-cpu"="cortex-m0"'
+# Of the functions, of those that are always inlined, and of those with a hint.
+change '"probe-stack"="inline-asm" "stack-probe-size"="3072" "target-cpu"="x86-64"' '"target-cpu"="cortex-m0"' 3
 # An address has 32 bits there: `ptrtoint` puts zeros above it. (Both lines are of the one function that compares pointers, whose text check_ir.py has.)
 change '%r8 = ptrtoaddr ptr %a1 to i64' '%r8 = ptrtoint ptr %a1 to i64'
 change '%r9 = ptrtoaddr ptr %a0 to i64' '%r9 = ptrtoint ptr %a0 to i64'
