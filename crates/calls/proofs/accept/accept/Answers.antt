@@ -1,27 +1,23 @@
 -- `calls::accept::accept` meets its contract. Assumes nothing.
-use mathlib.Core.Path.{◌∙◌}
-use Rattle.tables_model.specs.Rows.{index}
-use Rattle.state.specs.Requests.{call_of}
-use Rattle.calls.proofs.NoRefusal.{free-begin}
-use Rattle.calls.proofs.Leaving.{rows-by, accepted-by, read-leaves}
+use mir.Syntax.{w16}
+use mir.Facts.{to_z-of_z}
+use borrow.Author.Rules.{rules}
+use Rattle.calls.proofs.accept.accept.Goals.{in-Begin, in-Change, in-HandOver, in-HandOverAll, in-Commit, in-Abort, in-Force, in-Flush, in-Read}
 use Rattle.calls.proofs.accept.accept.Goals as goal
 
-pub done_by-done-requires : goal.done_by-done-requires
-done_by-done-requires c =
-    let a = c.args in
-    let A = c.requires.0 in (
-      rows-by _ _ _ _ _ _ _ _ (call_of a.request) A _ _ _ _ _ _ _ _ c.act-a.ensures.done,
-      c.act-a.auto.copy ∙ A.fits.copy-long,
-      λ e. (free-begin (index a.t a.ram.visits.now a.ram.scopes.now) _ (rw e at A.free)).0,
-    )
-
+-- each call's own function has said it
 pub returns-clause-accepted : goal.returns-clause-accepted
 returns-clause-accepted c =
-    let a = c.args in
-    let done = c.done_by-done.ensures in
-    accepted-by _ _ _ _ _ _ _ _ (call_of a.request) c.requires.0 _ _ _ _ _ _ _ _ c.act-a.ensures.done _ done.0 done.1 _ _ _ _ _ (rw c.pages_by-pages.ensures at c.settle.ensures)
-
-pub returns-clause-read : goal.returns-clause-read
-returns-clause-read c =
-    let a = c.args in
-    read-leaves _ _ _ _ _ _ _ _ _ _ _ _ _ _ _ _ _ _ _ _ (call_of a.request) c.requires.0.running c.act-a.ensures.read _ _ (rw c.pages_by-pages.ensures at c.settle.ensures)
+    elim c.match-request.branch [
+      | in-Begin w ↦ rw (w.in-Begin.is, w.result-is, w.log-is, w.charts-is, w.copy-is, w.tail-is, w.visits-is, w.scopes-is) (w.accept_begin.ensures _)
+      | in-Change w ↦
+          let amount = to_z-of_z {w = w16} {z = w.in-Change.z} (search rules) in
+          rw (w.in-Change.is, w.result-is, w.log-is, w.charts-is, w.copy-is, w.tail-is, w.visits-is, w.scopes-is) (rw amount at (w.accept_change.ensures c.args.charts.now))
+      | in-HandOver w ↦ rw (w.in-HandOver.is, w.result-is, w.log-is, w.charts-is, w.copy-is, w.tail-is, w.visits-is, w.scopes-is) (w.accept_hand_over.ensures _)
+      | in-HandOverAll w ↦ rw (w.in-HandOverAll.is, w.result-is, w.log-is, w.charts-is, w.copy-is, w.tail-is, w.visits-is, w.scopes-is) (w.accept_hand_over_all.ensures _)
+      | in-Commit w ↦ rw (w.in-Commit.is, w.result-is, w.log-is, w.charts-is, w.copy-is, w.tail-is, w.visits-is, w.scopes-is) (w.accept_commit.ensures _)
+      | in-Abort w ↦ rw (w.in-Abort.is, w.result-is, w.log-is, w.charts-is, w.copy-is, w.tail-is, w.visits-is, w.scopes-is) (w.accept_abort.ensures _)
+      | in-Force w ↦ rw (w.in-Force.is, w.result-is, w.log-is, w.charts-is, w.copy-is, w.tail-is, w.visits-is, w.scopes-is) (w.accept_force.ensures _)
+      | in-Flush w ↦ rw (w.in-Flush.is, w.result-is, w.log-is, w.charts-is, w.copy-is, w.tail-is, w.visits-is, w.scopes-is) w.accept_flush.ensures
+      | in-Read w ↦ rw (w.in-Read.is, w.result-is, w.log-is, w.charts-is, w.copy-is, w.tail-is, w.visits-is, w.scopes-is) (w.accept_read.ensures.0 _)
+    ]
