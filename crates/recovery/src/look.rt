@@ -1,5 +1,5 @@
 // Rows of the log that is checked are looked up: the row that an undo row names, and the change before that one in its scope.
-ghost use Rattle.std.specs.Prelude.{◌≡◌, ℕ, List, length};
+ghost use Rattle.std.specs.Prelude.{◌≡◌, ◌≤◌, ℕ, List, length, IfSome};
 ghost use Rattle.book.specs.Rows.{undone_by};
 ghost use Rattle.rows.specs.Meaning.{meant, coded};
 ghost use Rattle.tables_model.specs.declared.Whom.TheVariants.{One};
@@ -32,7 +32,7 @@ pub(crate) fn row_bytes(log: &[u8], k: usize) -> &[u8]
 fn before_found(log: &[u8], k: usize, scopes: &[u16], found: Option<usize>) -> Option<Lsn>
     requires rows { Rows (length log.now) k }
     requires reaches { Reaches (length scopes.now) found }
-    ensures { row_or_0 result ≡ before_found (row_in log.now k) found (entries scopes.now) }
+    ensures { (row_or_0 result ≡ before_found (row_in log.now k) found (entries scopes.now)) × IfSome result (λ n. 1 ≤ n.0) }
 {
     let s = entry_at(scopes, found?);
     before_last_in(log, 0, k, s)
@@ -42,7 +42,8 @@ fn before_found(log: &[u8], k: usize, scopes: &[u16], found: Option<usize>) -> O
 fn before_highest(log: &[u8], k: usize, t: Counts, scopes: &[u16], h: Visit) -> Option<Lsn>
     requires rows { Rows (length log.now) k }
     requires sized { Sized (length scopes.now) t.used }
-    ensures { (visits : List ℕ) → row_or_0 result ≡ before_highest (row_in log.now k) (One h) (index t visits scopes.now) }
+    ensures { ((visits : List ℕ) → row_or_0 result ≡ before_highest (row_in log.now k) (One h) (index t visits scopes.now))
+        × IfSome result (λ n. 1 ≤ n.0) }
 {
     let found = highest(scopes, t.used, Whom::One(h));
     before_found(log, k, scopes, found)
@@ -52,7 +53,8 @@ fn before_highest(log: &[u8], k: usize, t: Counts, scopes: &[u16], h: Visit) -> 
 pub fn before_undone(log: &[u8], k: usize, t: Counts, scopes: &[u16], row: Row) -> Option<Lsn>
     requires rows { Rows (length log.now) k }
     requires sized { Sized (length scopes.now) t.used }
-    ensures { (visits : List ℕ) → row_or_0 result ≡ before_undone (row_in log.now k) (index t visits scopes.now) (meant row) }
+    ensures { ((visits : List ℕ) → row_or_0 result ≡ before_undone (row_in log.now k) (index t visits scopes.now) (meant row))
+        × IfSome result (λ n. 1 ≤ n.0) }
 {
     match row {
         Row::Undo(h, _, _, _) => before_highest(log, k, t, scopes, h),

@@ -6,5 +6,5 @@ use Rattle.recovery.proofs.look.before_found.Goals as goal
 
 pub returns : goal.returns
 returns c =
-    rw (c.in_ok-found.was, ← c.entry_at-s.ensures)
-    (c.before_last_in.ensures.0 ∙ before-in-log c.args.log.now c.args.k (scope_in c.entry_at-s.result))
+    let r = c.before_last_in.ensures in
+    rw (c.in_ok-found.was, ← c.entry_at-s.ensures) (r.0 ∙ before-in-log c.args.log.now c.args.k (scope_in c.entry_at-s.result), r.2)

@@ -2,4 +2,4 @@
 use Rattle.recovery.proofs.look.before_undone.Goals as goal
 
 pub returns-in-Undo : goal.returns-in-Undo
-returns-in-Undo c = λ visits. rw c.in-Undo.is (c.before_highest.ensures visits)
+returns-in-Undo c = let r = c.before_highest.ensures in (λ visits. rw c.in-Undo.is (r.0 visits), r.1)

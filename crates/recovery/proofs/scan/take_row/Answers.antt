@@ -11,6 +11,6 @@ step-requires c = record { ready = c.requires.ready; takes = allowed-takes _ _ _
 pub returns : goal.returns
 returns c =
     let given = c.unwrap_or_default in
-    let before = or-zero c.before_undone-before.result _ (λ l d. d) given.result given.ensures ∙ c.before_undone-before.ensures c.args.visits.now in
+    let before = or-zero c.before_undone-before.result _ (λ l d. d) given.result given.ensures ∙ c.before_undone-before.ensures.0 c.args.visits.now in
     let judged = rw (c.named_by-named.ensures, meant-coded) at c.in_ok-judge.ensures in
     rw (← judged, c.step.ensures, before, add-one)
