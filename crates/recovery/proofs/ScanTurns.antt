@@ -1,5 +1,5 @@
 -- The turns of the loops that check a log. Assumes nothing.
-use Rattle.std.proofs.Common.{◌≡◌, ℕ, suc, ◌+◌, ◌-◌, ◌<◌, ◌≤◌, true, false, Option, Some, None, is_some, Result, Ok, Err, List, refl, add-one, arith, ap}
+use Rattle.std.proofs.Common.{◌≡◌, ℕ, suc, ◌+◌, ◌-◌, ◌<◌, ◌≤◌, true, false, Option, Some, None, is_some, Result, Ok, Err, is_ok, List, refl, add-one, arith, ap}
 use Rattle.std.specs.Option.{option_or}
 use Rattle.book.specs.Rows as book
 use Rattle.rows.specs.Reading.{is_blank, read_of}
@@ -38,6 +38,12 @@ module _ (i : ℕ) (log : List ℕ) where
   pub set-end : 4096 ≤ i → first_set (4096 - i) i log ≡ None
   unfolding first_set
   set-end h = rw (none_left i h)
+
+-- ── A row that the tables allow ───────────────────────────────────────────────────────────────────────────────────────
+
+pub allowed : (r : Result (Unit {0}) Breach) → true ≡ is_ok r → Ok tt ≡ r
+allowed (Ok u) e = refl
+allowed (Err b) e = cc
 
 -- ── Row by row ────────────────────────────────────────────────────────────────────────────────────────────────────────
 

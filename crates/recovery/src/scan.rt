@@ -4,7 +4,7 @@ ghost use Rattle.rows.specs.Meaning.{meant};
 ghost use Rattle.book.specs.Rows.{undone_by};
 ghost use Rattle.book.specs.Limits.{row_limit, log_length};
 ghost use Rattle.tables_model.specs.Rows.{Ready, index, judge_by};
-ghost use Rattle.recovery_model.specs.Scan.{row_in, ruled, judge_row, scan_from, first_set, scanned};
+ghost use Rattle.recovery_model.specs.Scan.{row_in, reason_of, ruled, judge_row, scan_from, first_set, scanned};
 ghost use Rattle.recovery_model.specs.Checking.{Next, judgement, found};
 ghost use Rattle.recovery_model.specs.Openings.{no_index};
 
@@ -16,7 +16,17 @@ use rows::{Lsn, Read, Row};
 use tables::layout::{FLAT_LENGTH, VISITS_LENGTH};
 use tables::rules::judge;
 use tables::steps::step;
-use tables_model::Counts;
+use tables_model::{Breach, Counts};
+
+// The reason of a row that the tables forbid.
+fn reason_of(b: Breach) -> Reason
+    ensures { result ≡ reason_of b }
+{
+    match b {
+        Breach::Rule => Reason::Rule,
+        Breach::Limit => Reason::Limit,
+    }
+}
 
 // A row that the rules allow is applied to the tables, and does not end the log.
 fn take_row(
@@ -34,7 +44,7 @@ fn take_row(
         (judge_by (index t visits.old scopes.old) k (row_in log.now k (undone_by (meant row))) (meant row)) }
 {
     let named = named_by(log, k, row);
-    judge(t, visits, scopes, k, row, named)?;
+    judge(t, visits, scopes, k, row, named).map_err(reason_of)?;
     let n = Lsn((k + 1) as u16);
     let before = before_undone(log, k, t, scopes, row);
     Ok(Some(step(t, visits, scopes, n, row, before.unwrap_or_default())))

@@ -7,10 +7,9 @@
 ghost use Rattle.std.specs.Prelude.{◌≡◌, ◌≤◌};
 ghost use Rattle.book.specs.Limits.{row_limit};
 ghost use Rattle.tables_model.specs.Visits.{InRange};
-ghost use Rattle.recovery_model.specs.Scan.{reason_of};
 
 use rows::Lsn;
-use tables_model::{Breach, Counts};
+use tables_model::Counts;
 
 // Why a row of a log is not allowed: its bytes are no row's, a row rule forbids it, or a limit does.
 #[derive(Clone, Copy)]
@@ -18,17 +17,6 @@ pub enum Reason {
     Bytes,
     Rule,
     Limit,
-}
-
-impl From<Breach> for Reason {
-    ghost from_gives = { λ b reason. reason ≡ reason_of b };
-
-    fn from(b: Breach) -> Reason {
-        match b {
-            Breach::Rule => Reason::Rule,
-            Breach::Limit => Reason::Limit,
-        }
-    }
 }
 
 // A row that is not allowed.
