@@ -595,13 +595,18 @@ class Reader:
             self.faults.append(Fault(line, 'call', found[0]))
             return
         self.calls[self.function.name].setdefault(name, line)
+        if COMPARISON.fullmatch(name) and name not in self.reading():
+            name = self.read_here(callee, line)
         if result.startswith('{'):
             self.pairs[register] = result, (('result', name), 0)
-        name = self.read_here(callee, line) if COMPARISON.fullmatch(name) else name
         for k, argument in enumerate(arguments):
             if argument[1]:
                 address = self.start(self.address(argument[2], line), ('passed', self.function.name, line, k), line)
                 self.places.join(address, (('parameter', name, k), 0), line)
+
+    def reading(self):
+        """The function that is read and, where it stands at a call, those around it. One that calls itself is not read anew: it is found by its calls."""
+        return re.split(r', called in line \d+ of ', self.function.name)
 
     def read_here(self, callee, line):
         """Reads a function as if it stood at the call, with places of its own. Gives the name under which these are known."""

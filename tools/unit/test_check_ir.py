@@ -57,6 +57,10 @@ next:                                             ; preds = %start
   %back = extractvalue {{ ptr, i64 }} %given, 0
   %long = extractvalue {{ ptr, i64 }} %given, 1
   store i64 %long, ptr %back, align 1
+  %same = call i1 @"m::PartialEq::eq"(ptr %length, ptr %numbers)
+  %other_than = call i1 @"m::PartialEq::ne"(ptr %lent, ptr %numbers)
+  %named = call {{ ptr, i64 }} @"m::PartialEq::lend"(ptr %numbers, i64 %a1)
+  call void @"m::never"(i1 %same)
   %none = icmp eq ptr %a0, null
   call void @"m::copy_bits"(ptr %lent, ptr %a0, i64 %long)
   %r0 = load ptr, ptr %one, align 8, !noundef !1
@@ -89,6 +93,43 @@ start:
   ret {{ ptr, i64 }} %r0
 }}
 
+define internal noundef i1 @"m::PartialEq::eq"(ptr noundef %a0, ptr noundef %a1) #0 {{
+start:
+  %r0 = load i64, ptr %a0, align 8
+  %r1 = load i64, ptr %a1, align 8
+  %r2 = icmp eq i64 %r0, %r1
+  ret i1 %r2
+}}
+
+define internal noundef i1 @"m::PartialEq::ne"(ptr noundef %a0, ptr noundef %a1) #2 {{
+start:
+  %r0 = call i1 @"m::PartialEq::eq"(ptr %a0, ptr %a1)
+  %r1 = xor i1 %r0, true
+  ret i1 %r1
+}}
+
+define internal noundef {{ ptr, i64 }} @"m::PartialEq::lend"(ptr noundef %a0, i64 noundef %a1) #0 {{
+start:
+  %slice = alloca [16 x i8], align 8
+  store ptr %a0, ptr %slice, align 8
+  %length = getelementptr i8, ptr %slice, i64 8
+  store i64 %a1, ptr %length, align 8
+  %r0 = load {{ ptr, i64 }}, ptr %slice, align 8
+  ret {{ ptr, i64 }} %r0
+}}
+
+define internal void @"m::never"(i1 noundef %a0) #1 {{
+start:
+  br i1 %a0, label %fine, label %wrong
+
+fine:                                             ; preds = %start
+  ret void
+
+wrong:                                            ; preds = %start
+  call void @llvm.trap()
+  unreachable
+}}
+
 define internal void @"m::copy_bits"(ptr noundef %a0, ptr noundef %a1, i64 noundef %a2) #0 {{
 {check_ir.COPY_BITS.strip().replace('!range !', '!range !2').replace('!noundef !', '!noundef !1')}
 }}
@@ -97,10 +138,14 @@ declare void @llvm.memmove.p0.p0.i64(ptr writeonly captures(none), ptr readonly 
 
 declare void @llvm.memset.p0.i64(ptr writeonly captures(none), i8, i64, i1 immarg) #4
 
+declare void @llvm.trap() #5
+
 attributes #0 = {{ nounwind "probe-stack"="inline-asm" "stack-probe-size"="3072" "target-cpu"="x86-64" }}
 attributes #1 = {{ alwaysinline nounwind "probe-stack"="inline-asm" "stack-probe-size"="3072" "target-cpu"="x86-64" }}
+attributes #2 = {{ inlinehint nounwind "probe-stack"="inline-asm" "stack-probe-size"="3072" "target-cpu"="x86-64" }}
 attributes #3 = {{ nocallback nofree nounwind willreturn memory(argmem: readwrite) }}
 attributes #4 = {{ nocallback nofree nounwind willreturn memory(argmem: write) }}
+attributes #5 = {{ cold noreturn nounwind memory(inaccessiblemem: write) }}
 
 !1 = !{{}}
 !2 = !{{i8 0, i8 2}}
@@ -216,6 +261,8 @@ INSERTED = {
         'call void @"m::keep"(ptr %pair, ptr %a0, ptr %a0)',
         '%x = call i64 @"m::keep"(ptr %pair, ptr %a0)',
         'call void @"m::nowhere"(ptr %pair)',
+        '%x = call i1 @"m::PartialEq::eq"(ptr %pair, i64 %a1)',
+        '%x = call i64 @"m::PartialEq::eq"(ptr %pair, ptr %pair)',
     ],
     'origin': [
         'store i64 0, ptr %later, align 8',
@@ -250,6 +297,12 @@ INSERTED = {
         # through a pointer that is given back
         '%x = call { ptr, i64 } @"m::lend"(ptr %numbers, i64 0, i32 1)\n%y = extractvalue { ptr, i64 } %x, 0\nstore ptr %a0, ptr %y, align 8',
         '%x = call { ptr, i64 } @"m::lend"(ptr %pair, i64 0, i32 1)',
+        # by a comparison, through a pointer that one gives back, and through what another is lent by it
+        '%x = call i1 @"m::PartialEq::eq"(ptr %numbers, ptr %pair)',
+        '%x = call i1 @"m::PartialEq::ne"(ptr %pair, ptr %numbers)',
+        '%x = call { ptr, i64 } @"m::PartialEq::lend"(ptr %pair, i64 0)\n%y = extractvalue { ptr, i64 } %x, 0\nstore i64 7, ptr %y, align 8',
+        '%x = call { ptr, i64 } @"m::PartialEq::lend"(ptr %numbers, i64 0)\n%y = extractvalue { ptr, i64 } %x, 0\nstore ptr %a0, ptr %y, align 8',
+        '%x = call { ptr, i64 } @"m::PartialEq::lend"(ptr %pair, i64 0)\n%y = extractvalue { ptr, i64 } %x, 0\n%z = call i1 @"m::PartialEq::ne"(ptr %y, ptr %numbers)',
         # halves of a pointer
         f'%x = getelementptr i8, ptr %pair, i64 4\n{MEMMOVE}(ptr %halves, ptr %x, i64 4, i1 false)\n%y = load i32, ptr %halves, align 4',
         f'{MEMMOVE}(ptr %halves, ptr %pair, i64 4, i1 false)\n%y = load i32, ptr %halves, align 4',
@@ -317,6 +370,8 @@ INSERTED = {
         f'{MEMMOVE}(ptr %halves, ptr %numbers, i64 16, i1 false)',
         f'{MEMMOVE}(ptr %numbers, ptr %halves, i64 9, i1 false)',
         f'{MEMSET}(ptr %numbers, i8 0, i64 33, i1 false)',
+        '%x = getelementptr i8, ptr %numbers, i64 32\n%y = call i1 @"m::PartialEq::eq"(ptr %x, ptr %numbers)',
+        '%x = getelementptr i8, ptr %numbers, i64 32\n%y = call { ptr, i64 } @"m::PartialEq::lend"(ptr %x, i64 0)\n%z = extractvalue { ptr, i64 } %y, 0\nstore i8 0, ptr %z, align 1',
     ],
     'alignment': [
         '%x = load i64, ptr %numbers, align 16',
@@ -341,6 +396,10 @@ KEEP = 'define internal void @"m::keep"(ptr noundef %a0, ptr noundef %a1) #0 {'
 INNER = 'define internal noundef i64 @"m::inner"(ptr noundef %a0, i64 noundef %a1) #0 {'
 OUTER = 'define noundef i64 @chart_outer(ptr noundef %a0, i64 noundef %a1) #0 {'
 ATTRIBUTES = 'attributes #0 = { nounwind "probe-stack"="inline-asm" "stack-probe-size"="3072" "target-cpu"="x86-64" }'
+INLINED = 'attributes #1 = { alwaysinline nounwind'
+TRAP = 'declare void @llvm.trap() #5'
+TRAPPING = 'attributes #5 = { cold noreturn nounwind memory(inaccessiblemem: write) }'
+EQ = 'define internal noundef i1 @"m::PartialEq::eq"(ptr noundef %a0, ptr noundef %a1) #0 {\nstart:\n'
 
 REPLACED = {
     'target': [
@@ -373,6 +432,12 @@ REPLACED = {
     ]
     + [
         (ATTRIBUTES, ATTRIBUTES.replace('nounwind', 'nounwind alignstack(16)')),
+        *((INLINED, INLINED.replace('alwaysinline', words)) for words in ('noinline', 'optnone noinline', 'naked', 'alwaysinline inlinehint', 'alwaysinline memory(none)')),
+        (TRAP, TRAP.replace('()', '(ptr)')),
+        (TRAP, TRAP.replace('void', 'i64')),
+        (TRAP, TRAP.replace('#5', '#1')),
+        (TRAP, TRAP.replace('llvm.trap', 'llvm.debugtrap')),
+        *((TRAPPING, TRAPPING.replace('memory(inaccessiblemem: write)', words)) for words in ('memory(argmem: write)', 'memory(readwrite)', 'allockind("alloc") memory(inaccessiblemem: write)')),
         (ATTRIBUTES, ATTRIBUTES.replace('x86-64', 'x86-64-v3')),
     ],
     'head': [
@@ -392,8 +457,8 @@ REPLACED = {
             'byval([8 x i8])', 'sret([8 x i8])', 'dereferenceable(8)', 'align 16', 'noalias', 'nonnull', 'inreg', 'nest')),
         (INNER, INNER.replace('noundef i64 @', 'noundef ptr @')),
         (KEEP, KEEP.replace('ptr noundef %a0', 'ptr %a0')),
-        ('noundef { ptr, i64 } @', 'noundef { ptr, ptr } @'),
-        ('noundef { ptr, i64 } @', 'noundef { i64, ptr } @'),
+        ('noundef { ptr, i64 } @"m::lend"', 'noundef { ptr, ptr } @"m::lend"'),
+        ('noundef { ptr, i64 } @"m::lend"', 'noundef { i64, ptr } @"m::lend"'),
         (INNER, INNER.replace('noundef i64 @', 'noundef i128 @')),
         (INNER, INNER.replace('noundef i64 @', 'signext i64 @')),
         ('attributes #0', 'define internal void @open(ptr noundef %a0) #0 {\nattributes #0'),
@@ -419,7 +484,12 @@ REPLACED = {
         ('  %r0 = load ptr, ptr %one', '  %x = phi ptr [ %a0, %start ]\n  %r0 = load ptr, ptr %one'),
         ('  br label %next', '  switch i128 0, label %next [\n  ]'),
         ('  br label %next', '  br label %next, !prof !3'),
-        ('start:\n  %r0 = call', 'start:\n  ; a comment\n  %r0 = call'),
+        ('start:\n  %r0 = call i64', 'start:\n  ; a comment\n  %r0 = call i64'),
+        ('  call void @llvm.trap()', '  call void @llvm.debugtrap()'),
+        ('  call void @llvm.trap()', '  call void @llvm.ubsantrap(i8 0)'),
+        ('  call void @llvm.trap()', '  %x = call i64 @llvm.trap()'),
+        ('  call void @llvm.trap()', '  call void @llvm.trap(ptr %a0)'),
+        ('  call void @llvm.trap()', '  call void @llvm.trap() #5'),
     ],
     'origin': [  # the block that makes the pointer stands behind the one that uses it
         ('  store i64 0, ptr %a0, align 8\n', '  br label %second\n\nthird:\n  store i64 0, ptr %x, align 8\n  ret void\n\nsecond:\n  %x = getelementptr i8, ptr %a0, i64 0\n  br label %third\n\nlast:\n'),
@@ -427,6 +497,9 @@ REPLACED = {
     'recursion': [
         ('  br label %next', '  %x = call i64 @"m::inner"(ptr %a0, i64 %a1)\n  br label %next'),
         ('  br label %next', '  %x = call i64 @chart_outer(ptr %a0, i64 %a1)\n  br label %next'),
+        # a comparison, which is gone through anew for each call: itself, and by another one
+        (EQ, EQ + '  %x = call i1 @"m::PartialEq::eq"(ptr %a0, ptr %a1)\n'),
+        (EQ, EQ + '  %x = call i1 @"m::PartialEq::ne"(ptr %a0, ptr %a1)\n'),
     ],
 }
 
