@@ -158,9 +158,17 @@ def quoted(cell):
 
 
 def cases():
-    """Each case of an answer in Rattle with its number, by the definition and by the code."""
-    definition, code = read('crates/state/specs/Answers.antt'), read('crates/state/src/answers.rt').partition('fn number_of')[2].partition('\n}')[0]
-    done = dict.fromkeys(['Done'] + re.findall(r'^done_value \(?(\w+)', definition, re.M), 0)
+    """Each case of an answer in Rattle with its number, by the definition and by the code. A call that was done has number 0 and, case by case, the value of `done_value`; one that was refused has
+    those of `refusal_answer`."""
+    definition, source = read('crates/state/specs/Answers.antt'), read('crates/state/src/answers.rt')
+    code, values = (source.partition(f'fn {name}')[2].partition('\n}')[0] for name in ('number_of', 'value_of'))
+    by_result = ['(Ok d) = done (done_value d)', '(Err r) = refusal_answer r']
+    need(re.findall(r'^number_and_value (?!:)(.*)$', definition, re.M) == by_result, 'state/specs/Answers: number_and_value has another form')
+    given = re.findall(r'^done_value \(?(\w+)(?: (\w+)\))? = (?:(pos) )?(\S+)$', definition, re.M)
+    lines = [f'Ok(Done::{case}{f"({it})" if it else ""}) => {f"i32::from({value})" if positive and it else value},' for case, it, positive, value in given]
+    need(len(given) == len(re.findall(r'^done_value (?!:)', definition, re.M)), 'state/specs/Answers: a value of what was done has another form')
+    need(lines == re.findall(r'^        (Ok\(.*)$', values, re.M), 'state/specs/Answers and state/src/answers.rt have not the same values of what was done')
+    done = dict.fromkeys(['Done'] + [case for case, *_ in given], 0)
     by_definition = {case: int(number) for case, number in re.findall(r'^refusal_answer \(?(\w+).* = (?:refused_by|book\.answer) (\d+)', definition, re.M)}
     by_code = {case: int(number) for case, number in re.findall(r'^        Err\(Refusal::(\w+)(?:\(_\))?\) => (\d+),$', code, re.M)}
     need('\n        Ok(_) => 0,\n' in code, 'state/src/answers.rt: a call that was done has another number than 0')
