@@ -1,4 +1,5 @@
-"""What the files below crates/ declare, without comments and with single spaces: definitions and theorems (.antt), types, constants and functions (.rt).
+"""What the files below crates/ declare, without comments and with single spaces: definitions and theorems (.antt), types, constants and functions (.rt). A function of an `impl` is declared by its
+type, `Output::put_line`, and by its name alone.
 
 A declaration reaches the ones that it names: those of its own file, and those that a `use` line of its file brings in. A name that is also that of a variable counts as well, so that more may
 be reached than is meant, and never less.
@@ -34,7 +35,7 @@ def parts(name):
 class Declaration:
     path: str
     name: str
-    says: str  # its type, or all of a record, a struct, a constant; of a function of the code its parameters and its contract
+    says: str  # its type, or all of a record, a struct, a constant; of a function of the code its parameters and its contract, with the laws of its `impl`
     meant_by: str = ''  # the equations of a definition
     module: str = ''  # the headers of the modules around it, which have its parameters
     members: list = field(default_factory=list)
@@ -181,20 +182,46 @@ def split_parameters(text):
     return [plain(part) for part in parts if part.strip()]
 
 
-FUNCTION = re.compile(r'(?m)^(?P<head>(?:#\[[^\]]*\]\s*)*(?:pub(?:\([a-z]+\))? )?(?:const )?(?:unsafe )?(?:extern "C" )?fn )(?P<name>\w+)\s*(?:<[^>]*>)?\(')
+FUNCTION = re.compile(r'(?m)^(?P<indent> *)(?P<head>(?:#\[[^\]]*\]\s*)*(?:pub(?:\([a-z]+\))? )?(?:const )?(?:unsafe )?(?:extern "C" )?fn )(?P<name>\w+)\s*(?:<[^>]*>)?\(')
 RETURNS = re.compile(r'[^{;]*?(?=\s(?:requires|ensures)\b|\{|;)')
 CLAUSE = re.compile(r'\s*((?:requires|ensures)(?: \*)?(?: \w+)?)\s*(?=\{)')
+IMPL = re.compile(r'(?m)^(?:unsafe )?impl\b([^{;]*)\{')
+LAW = re.compile(r'(?m)^ *(ghost \w+) = \{')
 
 
-def read_function(path, text, found):
+@dataclass
+class Impl:
+    start: int
+    end: int
+    owner: str  # the type that has its functions
+    laws: list  # as clauses
+
+
+def read_impls(path, text):
+    found = []
+    for head in IMPL.finditer(text):
+        start, words = head.end() - 1, head[1]
+        while words != (words := re.sub(r'<[^<>]*>', ' ', words)):
+            pass
+        owner = re.fullmatch(r'(?:.* for )?(?:\w+::)*(\w+)(?: where.*)?', plain(words)) or sys.exit(f'declarations: {path}: an `impl` of another form: {plain(head[0])}')
+        end = closing(text, start)
+        laws = [(law[1], plain(text[law.end():closing(text, law.end() - 1)])) for law in LAW.finditer(text, start, end)]
+        found.append(Impl(start, end, owner[1], laws))
+    return found
+
+
+def read_function(path, text, found, impl=None):
     start = found.end() - 1
     end = closing(text, start)
     function = Function(path, found['name'], '', head=plain(found['head']), parameters=split_parameters(text[start + 1:end]))
+    if impl:
+        function.name, function.members = f'{impl.owner}::{function.name}', [function.name]
     returns = RETURNS.match(text, end + 1)
     function.returns, at = plain(returns[0]), returns.end()
     while clause := CLAUSE.match(text, at):
         at = closing(text, clause.end()) + 1
         function.clauses.append((clause[1], plain(text[clause.end() + 1:at - 1])))
+    function.clauses += impl.laws if impl else []
     function.says = plain(f'{function.head} {function.name}({", ".join(function.parameters)}) {function.returns} ' + ' '.join(f'{k} {{ {c} }}' for k, c in function.clauses))
     return function
 
@@ -234,8 +261,14 @@ def read_source(file, path, text):
         if text[end] == '{':
             end = closing(text, end)
         file.add(Declaration(path, found[1], plain(text[found.start():end + 1])))
-    for found in FUNCTION.finditer(text):
-        file.add(read_function(path, text, found))
+    impls, functions = read_impls(path, text), list(FUNCTION.finditer(text))
+    for found in functions:
+        around = [impl for impl in impls if impl.start < found.start() < impl.end]
+        if len(found['indent']) != 4 * len(around):
+            sys.exit(f'declarations: {path}: a function that stands in something other than an `impl`: {found["name"]}')
+        file.add(read_function(path, text, found, *around))
+    if len(functions) != len(re.findall(r'\bfn \w+\s*[<(]', text)):
+        sys.exit(f'declarations: {path}: a function of another form')
 
 
 # ── All of them ───────────────────────────────────────────────────────────────────────────────────────────────────────
@@ -273,7 +306,7 @@ class Crates:
         return self.file(path).declarations.get(name, []) if self.has(path) else []
 
     def functions(self, path):
-        return [d for ds in self.file(path).declarations.values() for d in ds if isinstance(d, Function)]
+        return [d for name, ds in self.file(path).declarations.items() for d in ds if isinstance(d, Function) and d.name == name]
 
     def named(self, path, text):
         """The declarations that a text of the file names."""
